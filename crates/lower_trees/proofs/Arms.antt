@@ -1,13 +1,13 @@
 -- What was lowered of the arms of a switch, and what is left, one arm after the other.
-use Rattle.std.proofs.Common.{◌≡◌, ◌≤◌, ℕ, ◌+◌, arith, Bool, true, false, List, [], ◌∷◌, ◌++◌, length, length-append, refl, sym, ap, ◌∙◌, subst, append_assoc, append-nil, if◌then◌else◌}
+use Rattle.std.proofs.Common.{◌≡◌, ◌≤◌, ℕ, ◌+◌, arith, Bool, true, false, List, [], ◌++◌, length, length-append, refl, sym, ap, ◌∙◌, subst, append_assoc, append-nil, if◌then◌else◌}
 use Rattle.c_types.specs.Types.{Ty}
-use Rattle.c_types.specs.Typed.{TStmtT, TArmT, CaseB, DefaultB, StmtB, TArmTs, NoB, MoreB}
+use Rattle.c_types.specs.Typed.{TStmtT, TArmT, CaseB, DefaultB, StmtB, TArmTs, MoreB}
 use Rattle.c_types.specs.Nodes.{arms_nodes}
 use Rattle.lower_trees.specs.Shape.{Shape}
 use Rattle.lower_trees.specs.Counts.{stmt_temps, arms_temps, stmt_sizes, arms_sizes}
-use Rattle.lower_trees.specs.Statements.{Jump}
-use Rattle.lower_trees.specs.ListedParts.{Listing}
-use Rattle.lower_trees.specs.ListedStatements.{low_label, low_stmt, low_arms, low_group, arms_open}
+use Rattle.lower_trees.specs.Pieces.{Listing, listing}
+use Rattle.lower_trees.specs.Statements.{Jump, low_stmt, low_arms, low_group}
+use Rattle.lower_trees.specs.inner.Enclosed.{low_label, arms_open}
 
 abbrev pub is_stmt : TArmT → Bool
 is_stmt (CaseB k) = false
@@ -34,9 +34,9 @@ label_opens h ty t b j DefaultB false out inside n m rest e = ap (λ z. z ++ arm
 label_opens h ty t b j (StmtB a) met out inside n m rest e = absurd cc
 
 stmt_opens : (h : Shape) (ty : Ty) (t b : ℕ) (j : Jump) (a : TStmtT) (met : Bool) (inside : Listing) (n m : ℕ) (rest : TArmTs)
-    → arms_open met (inside ++ low_stmt h ty a n m b j) h ty t rest (n + stmt_temps a) (m + length (stmt_sizes h a)) b j ≡ arms_open met inside h ty t (MoreB (StmtB a) rest) n m b j
+    → arms_open met (inside ++ listing (low_stmt h ty a n m b j)) h ty t rest (n + stmt_temps a) (m + length (stmt_sizes h a)) b j ≡ arms_open met inside h ty t (MoreB (StmtB a) rest) n m b j
 stmt_opens h ty t b j a true inside n m rest =
-    ap (λ z. low_label t z ++ low_arms h ty t rest (n + stmt_temps a) (m + length (stmt_sizes h a)) b j) (append_assoc inside (low_stmt h ty a n m b j) (low_group h ty rest (n + stmt_temps a) (m + length (stmt_sizes h a)) b j))
+    ap (λ z. low_label t z ++ listing (low_arms h ty t rest (n + stmt_temps a) (m + length (stmt_sizes h a)) b j)) (append_assoc inside (listing (low_stmt h ty a n m b j)) (listing (low_group h ty rest (n + stmt_temps a) (m + length (stmt_sizes h a)) b j)))
 stmt_opens h ty t b j a false inside n m rest = refl
 
 label_sizes : (h : Shape) (a : TArmT) (rest : TArmTs) → is_stmt a ≡ false → arms_sizes h rest ≡ arms_sizes h (MoreB a rest)
@@ -66,7 +66,7 @@ label_step {h = h} {ty = ty} {t = t} {b = b} {j = j} {first = first} {met = met}
 
 pub stmt_step : {h : Shape} {ty : Ty} {t b : ℕ} {j : Jump} {all : Listing} {words : List ℕ} {next local first : ℕ} {met met1 : Bool} {out out1 inside inside1 : Listing} {structures structures1 : List ℕ} {n n1 m m1 : ℕ} (a : TStmtT) (rest : TArmTs)
     → Left h ty t b j all words next local first met out inside structures n m (MoreB (StmtB a) rest)
-    → out1 ≡ out → inside1 ≡ inside ++ low_stmt h ty a n m b j → met1 ≡ met → structures1 ≡ structures ++ stmt_sizes h a → n1 ≡ n + stmt_temps a → m1 ≡ m + length (stmt_sizes h a) → Left h ty t b j all words next local first met1 out1 inside1 structures1 n1 m1 rest
+    → out1 ≡ out → inside1 ≡ inside ++ listing (low_stmt h ty a n m b j) → met1 ≡ met → structures1 ≡ structures ++ stmt_sizes h a → n1 ≡ n + stmt_temps a → m1 ≡ m + length (stmt_sizes h a) → Left h ty t b j all words next local first met1 out1 inside1 structures1 n1 m1 rest
 stmt_step {h = h} {ty = ty} {t = t} {b = b} {j = j} {local = local} {first = first} {met = met} {out = out} {inside = inside} {structures = structures} {n = n} {n1 = n1} {m = m} {m1 = m1} a rest l eo ei em es en el =
     let temps = l.temps in
     let locals = l.locals in

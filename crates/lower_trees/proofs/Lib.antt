@@ -1,4 +1,5 @@
 pub mod Joins
+pub mod Filled
 pub mod Forms
 pub mod StatementForms
 pub mod Viewed

@@ -5,9 +5,7 @@ use Rattle.c_types.specs.Nodes.{statement_nodes, arm_nodes, arms_nodes}
 use Rattle.c_types.specs.declared.typed.TArm.{TArm}
 use Rattle.c_types.specs.Typed.{TExprT, TStmtT, BlockZ, EmptyZ, VarsZ, DoZ, IfZ, WhileZ, DoWhileZ, ForZ, SwitchZ, ReturnZ, BreakZ, ContinueZ, MaybeZ, TArmT, CaseB, DefaultB, StmtB, TArmTs}
 use Rattle.lower_trees.specs.Shape.{Shape}
-use Rattle.lower_trees.specs.Parts.{one}
 use Rattle.lower_trees.specs.Counts.{maybe_sizes, value_sizes, stmt_sizes, other_sizes, arms_sizes}
-use Rattle.lower_trees.specs.ListedParts.{made}
 
 -- ---- how many they are
 

@@ -1,15 +1,12 @@
 pub mod Shape
 pub mod Flags
+pub mod Pieces
 pub mod Parts
 pub mod Counts
 pub mod Expressions
 pub mod Initialisers
 pub mod Statements
 pub mod Lowered
-pub mod ListedParts
-pub mod ListedExpressions
-pub mod ListedInitialisers
-pub mod ListedStatements
 pub mod ListedFunctions
 pub mod View
 pub mod inner

@@ -1,3 +1,4 @@
 pub mod MaybeTypes
 pub mod MaybeStatements
 pub mod StatementParts
+pub mod Enclosed

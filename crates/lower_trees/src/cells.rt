@@ -1,8 +1,8 @@
 // Nodes that are added, and loops over cells.
-ghost use Rattle.std.specs.Prelude.{◌≡◌, ◌++◌, ◌∷◌, [], map, IfOk, OnOk};
+ghost use Rattle.std.specs.Prelude.{◌≡◌, ◌==◌, false, ◌++◌, ◌∷◌, [], map, IfOk, OnOk};
 ghost use Rattle.mid_code.specs.Functions.{DoN, node};
-ghost use Rattle.lower_trees.specs.Parts.{count, one, cell, from, to};
-ghost use Rattle.lower_trees.specs.ListedParts.{copy_turn, zero_turn, copied, zeroed, moved_by, structure_read, stored, made};
+ghost use Rattle.lower_trees.specs.Pieces.{listing};
+ghost use Rattle.lower_trees.specs.Parts.{count, one, cell, from, to, copy_turn, zero_turn, copied, zeroed, moved_by, structure_read, stored, made};
 ghost use Rattle.c_types.specs.View.{ctype};
 ghost use Rattle.lower_trees.specs.View.{shape_of};
 
@@ -44,7 +44,7 @@ pub(crate) fn put(out: &mut Vec<Node<u32>>, o: Op<u32>) -> Result<(), Memory>
 
 /// One turn per cell that is copied.
 fn copy_turn(alloc: Global) -> Result<Vec<Node<u32>>, Memory>
-    ensures { IfOk result (λ r. map node r.items ≡ copy_turn) }
+    ensures { IfOk result (λ r. map node r.items ≡ listing copy_turn) }
 {
     let mut further = Vec::new(alloc);
     put(&mut further, Op::Step(FROM, FROM, ONE))?;
@@ -64,7 +64,7 @@ fn copy_turn(alloc: Global) -> Result<Vec<Node<u32>>, Memory>
 
 /// One turn per cell that is set to 0.
 fn zero_turn(alloc: Global) -> Result<Vec<Node<u32>>, Memory>
-    ensures { IfOk result (λ r. map node r.items ≡ zero_turn) }
+    ensures { IfOk result (λ r. map node r.items ≡ listing zero_turn) }
 {
     let mut further = Vec::new(alloc);
     put(&mut further, Op::Step(TO, TO, ONE))?;
@@ -81,8 +81,9 @@ fn zero_turn(alloc: Global) -> Result<Vec<Node<u32>>, Memory>
 }
 
 /// Copies `size` cells.
+#[tactic(auto, using(crate::proofs::Filled::copied_none, crate::proofs::Filled::copied_some))]
 pub(crate) fn copy_cells(alloc: Global, out: &mut Vec<Node<u32>>, size: u32) -> Result<(), Memory>
-    ensures { OnOk result (map node out.new.items ≡ map node out.old.items ++ copied size) }
+    ensures { OnOk result (map node out.new.items ≡ map node out.old.items ++ listing (copied size)) }
 {
     if size == 0 {
         return Ok(());
@@ -94,9 +95,11 @@ pub(crate) fn copy_cells(alloc: Global, out: &mut Vec<Node<u32>>, size: u32) -> 
     Ok(())
 }
 
-/// Sets `size` cells to 0.
+/// Sets `size` cells to 0, at least one.
+#[tactic(auto, using(crate::proofs::Filled::zeroed_some))]
 pub(crate) fn zero_cells(alloc: Global, out: &mut Vec<Node<u32>>, size: u32) -> Result<(), Memory>
-    ensures { OnOk result (map node out.new.items ≡ map node out.old.items ++ zeroed size) }
+    requires some { (size == 0) ≡ false }
+    ensures { OnOk result (map node out.new.items ≡ map node out.old.items ++ listing (zeroed size)) }
 {
     put(out, Op::Const(COUNT, size))?;
     put(out, Op::Const(ONE, 1))?;
@@ -108,7 +111,7 @@ pub(crate) fn zero_cells(alloc: Global, out: &mut Vec<Node<u32>>, size: u32) -> 
 
 /// Puts the pointer in `p`, moved on by `offset` words, into `t`.
 pub(crate) fn move_by(out: &mut Vec<Node<u32>>, t: u32, p: u32, offset: u32) -> Result<(), Memory>
-    ensures { OnOk result (map node out.new.items ≡ map node out.old.items ++ moved_by t p offset) }
+    ensures { OnOk result (map node out.new.items ≡ map node out.old.items ++ listing (moved_by t p offset)) }
 {
     put(out, Op::Const(t, offset))?;
     put(out, Op::Step(t, p, t))
@@ -122,7 +125,7 @@ pub(crate) fn read_structure(
     local: u32,
     t: u32,
 ) -> Result<(), Memory>
-    ensures { OnOk result (map node out.new.items ≡ map node out.old.items ++ structure_read size local t) }
+    ensures { OnOk result (map node out.new.items ≡ map node out.old.items ++ listing (structure_read size local t)) }
 {
     put(out, Op::Fresh(local))?;
     put(out, Op::Move(FROM, t))?;
@@ -139,7 +142,7 @@ pub(crate) fn store(
     p: u32,
     a: u32,
 ) -> Result<(), Memory>
-    ensures { OnOk result (map node out.new.items ≡ map node out.old.items ++ stored (shape_of s.now) (ctype ty.now) p a) }
+    ensures { OnOk result (map node out.new.items ≡ map node out.old.items ++ listing (stored (shape_of s.now) (ctype ty.now) p a)) }
 {
     if is_structure(ty) {
         put(out, Op::Move(FROM, a))?;
@@ -152,7 +155,7 @@ pub(crate) fn store(
 
 /// Makes locals anew.
 pub(crate) fn make(out: &mut Vec<Node<u32>>, locals: &[u32]) -> Result<(), Memory>
-    ensures { OnOk result (map node out.new.items ≡ map node out.old.items ++ made locals.now) }
+    ensures { OnOk result (map node out.new.items ≡ map node out.old.items ++ listing (made locals.now)) }
 {
     'locals: for k in locals {
         put(out, Op::Fresh(*k))?;

@@ -9,10 +9,11 @@ ghost use Rattle.lower_trees.specs.Shape.{words, params_of, result_of};
 ghost use Rattle.lower_trees.specs.Flags.{is_flag, tests_flag};
 ghost use Rattle.lower_trees.specs.Counts.{size_temps, unary_temps, temps, temps_of, temps_all, value_temps};
 ghost use Rattle.lower_trees.specs.Counts.{unary_sizes, sizes, sizes_of, sizes_all, value_sizes, one_size};
-ghost use Rattle.lower_trees.specs.Expressions.{second, beyond, behind_place, spots};
-ghost use Rattle.lower_trees.specs.ListedParts.{moved_by, structure_read, as_flag, converted, stored, stepped, operated, negated_as};
-ghost use Rattle.lower_trees.specs.ListedExpressions.{unary, low, low_kind, low_value, low_test, low_args};
-ghost use Rattle.lower_trees.specs.ListedExpressions.{lazy_choice, step_taken, member_of, called};
+ghost use Rattle.lower_trees.specs.Pieces.{listing};
+ghost use Rattle.lower_trees.specs.Parts.{moved_by, structure_read, as_flag, converted, stored, stepped, operated, negated_as};
+ghost use Rattle.lower_trees.specs.Expressions.{second, beyond, behind_place, spots, unary, low, low_kind, low_value, low_test, low_args};
+ghost use Rattle.lower_trees.specs.Expressions.{step_taken, member_of, called};
+ghost use Rattle.lower_trees.specs.inner.Enclosed.{lazy_choice};
 ghost use Rattle.lower_trees.specs.View.{shape_of, tkind};
 
 use crate::at::{At, from};
@@ -45,7 +46,7 @@ pub(crate) fn low(
 ) -> Result<At, Memory>
     requires temps { at.next + temps (texpr x.now) ≤ 1000000 }
     requires locals { at.local + length (sizes (shape_of s.now) (texpr x.now)) ≤ 1000000 }
-    ensures nodes { OnOk result (map node out.new.items ≡ map node out.old.items ++ low (shape_of s.now) (texpr x.now) t at.next at.local) }
+    ensures nodes { OnOk result (map node out.new.items ≡ map node out.old.items ++ listing (low (shape_of s.now) (texpr x.now) t at.next at.local)) }
     ensures sizes { OnOk result (structures.new.items ≡ structures.old.items ++ sizes (shape_of s.now) (texpr x.now)) }
     ensures next { IfOk result (λ r. r.next ≡ at.next + temps (texpr x.now)) }
     ensures local { IfOk result (λ r. r.local ≡ at.local + length (sizes (shape_of s.now) (texpr x.now))) }
@@ -66,7 +67,7 @@ pub(crate) fn value(
 ) -> Result<At, Memory>
     requires temps { at.next + value_temps (texpr x.now) ≤ 1000000 }
     requires locals { at.local + length (value_sizes (shape_of s.now) (texpr x.now)) ≤ 1000000 }
-    ensures nodes { OnOk result (map node out.new.items ≡ map node out.old.items ++ low_value (shape_of s.now) (texpr x.now) t at.next at.local) }
+    ensures nodes { OnOk result (map node out.new.items ≡ map node out.old.items ++ listing (low_value (shape_of s.now) (texpr x.now) t at.next at.local)) }
     ensures sizes { OnOk result (structures.new.items ≡ structures.old.items ++ value_sizes (shape_of s.now) (texpr x.now)) }
     ensures next { IfOk result (λ r. r.next ≡ at.next + value_temps (texpr x.now)) }
     ensures local { IfOk result (λ r. r.local ≡ at.local + length (value_sizes (shape_of s.now) (texpr x.now))) }
@@ -98,8 +99,8 @@ fn structure(
     requires temps { at.next + temps (texpr x.now) ≤ 1000000 }
     requires locals { at.local + length (sizes (shape_of s.now) (texpr x.now) ++ words (shape_of s.now) (type_of (texpr x.now)) ∷ []) ≤ 1000000 }
     ensures nodes { OnOk result (map node out.new.items ≡ map node out.old.items
-        ++ (low (shape_of s.now) (texpr x.now) t at.next at.local
-        ++ structure_read (words (shape_of s.now) (type_of (texpr x.now))) (at.local + length (sizes (shape_of s.now) (texpr x.now))) t)) }
+        ++ (listing (low (shape_of s.now) (texpr x.now) t at.next at.local)
+        ++ listing (structure_read (words (shape_of s.now) (type_of (texpr x.now))) (at.local + length (sizes (shape_of s.now) (texpr x.now))) t))) }
     ensures sizes { OnOk result (structures.new.items ≡ structures.old.items ++ sizes (shape_of s.now) (texpr x.now)
         ++ words (shape_of s.now) (type_of (texpr x.now)) ∷ []) }
     ensures next { IfOk result (λ r. r.next ≡ at.next + temps (texpr x.now)) }
@@ -124,7 +125,7 @@ fn cell(
     requires temps { at.next + (temps (texpr x.now) + 1) ≤ 1000000 }
     requires locals { at.local + length (sizes (shape_of s.now) (texpr x.now)) ≤ 1000000 }
     ensures nodes { OnOk result (map node out.new.items ≡ map node out.old.items
-        ++ (low (shape_of s.now) (texpr x.now) at.next (at.next + 1) at.local ++ (DoN (Op.Load t at.next) ∷ []))) }
+        ++ (listing (low (shape_of s.now) (texpr x.now) at.next (at.next + 1) at.local) ++ (DoN (Op.Load t at.next) ∷ []))) }
     ensures sizes { OnOk result (structures.new.items ≡ structures.old.items ++ sizes (shape_of s.now) (texpr x.now)) }
     ensures next { IfOk result (λ r. r.next ≡ at.next + (temps (texpr x.now) + 1)) }
     ensures local { IfOk result (λ r. r.local ≡ at.local + length (sizes (shape_of s.now) (texpr x.now))) }
@@ -148,7 +149,7 @@ fn kind(
     requires temps { at.next + temps_of (tkind of.now) (ctype ty.now) ≤ 1000000 }
     requires locals { at.local + length (sizes_of (shape_of s.now) (tkind of.now)) ≤ 1000000 }
     ensures nodes { OnOk result (map node out.new.items ≡ map node out.old.items
-        ++ low_kind (shape_of s.now) (tkind of.now) (ctype ty.now) t at.next at.local) }
+        ++ listing (low_kind (shape_of s.now) (tkind of.now) (ctype ty.now) t at.next at.local)) }
     ensures sizes { OnOk result (structures.new.items ≡ structures.old.items ++ sizes_of (shape_of s.now) (tkind of.now)) }
     ensures next { IfOk result (λ r. r.next ≡ at.next + temps_of (tkind of.now) (ctype ty.now)) }
     ensures local { IfOk result (λ r. r.local ≡ at.local + length (sizes_of (shape_of s.now) (tkind of.now))) }
@@ -212,7 +213,7 @@ fn unary(
     requires temps { at.next + unary_temps op (texpr x.now) (temps (texpr x.now)) ≤ 1000000 }
     requires locals { at.local + length (unary_sizes (shape_of s.now) op (texpr x.now) (sizes (shape_of s.now) (texpr x.now))) ≤ 1000000 }
     ensures nodes { OnOk result (map node out.new.items ≡ map node out.old.items
-        ++ unary (shape_of s.now) op (texpr x.now) (low (shape_of s.now) (texpr x.now)) t at.next at.local) }
+        ++ listing (unary (shape_of s.now) op (texpr x.now) (low (shape_of s.now) (texpr x.now)) t at.next at.local)) }
     ensures sizes { OnOk result (structures.new.items ≡ structures.old.items
         ++ unary_sizes (shape_of s.now) op (texpr x.now) (sizes (shape_of s.now) (texpr x.now))) }
     ensures next { IfOk result (λ r. r.next ≡ at.next + unary_temps op (texpr x.now) (temps (texpr x.now))) }
@@ -244,7 +245,7 @@ fn value_then(
     requires temps { at.next + value_temps (texpr x.now) ≤ 1000000 }
     requires locals { at.local + length (value_sizes (shape_of s.now) (texpr x.now)) ≤ 1000000 }
     ensures nodes { OnOk result (map node out.new.items ≡ map node out.old.items
-        ++ (low_value (shape_of s.now) (texpr x.now) t at.next at.local ++ (DoN o ∷ []))) }
+        ++ (listing (low_value (shape_of s.now) (texpr x.now) t at.next at.local) ++ (DoN o ∷ []))) }
     ensures sizes { OnOk result (structures.new.items ≡ structures.old.items ++ value_sizes (shape_of s.now) (texpr x.now)) }
     ensures next { IfOk result (λ r. r.next ≡ at.next + value_temps (texpr x.now)) }
     ensures local { IfOk result (λ r. r.local ≡ at.local + length (value_sizes (shape_of s.now) (texpr x.now))) }
@@ -267,7 +268,7 @@ fn negation(
     requires temps { at.next + value_temps (texpr x.now) ≤ 1000000 }
     requires locals { at.local + length (value_sizes (shape_of s.now) (texpr x.now)) ≤ 1000000 }
     ensures nodes { OnOk result (map node out.new.items ≡ map node out.old.items
-        ++ (low_value (shape_of s.now) (texpr x.now) t at.next at.local ++ negated_as (decayed (type_of (texpr x.now))) t)) }
+        ++ (listing (low_value (shape_of s.now) (texpr x.now) t at.next at.local) ++ listing (negated_as (decayed (type_of (texpr x.now))) t))) }
     ensures sizes { OnOk result (structures.new.items ≡ structures.old.items ++ value_sizes (shape_of s.now) (texpr x.now)) }
     ensures next { IfOk result (λ r. r.next ≡ at.next + value_temps (texpr x.now)) }
     ensures local { IfOk result (λ r. r.local ≡ at.local + length (value_sizes (shape_of s.now) (texpr x.now))) }
@@ -289,7 +290,7 @@ fn test(
 ) -> Result<At, Memory>
     requires temps { at.next + value_temps (texpr x.now) ≤ 1000000 }
     requires locals { at.local + length (value_sizes (shape_of s.now) (texpr x.now)) ≤ 1000000 }
-    ensures nodes { OnOk result (map node out.new.items ≡ map node out.old.items ++ (low_test (shape_of s.now) (texpr x.now) t at.next at.local)) }
+    ensures nodes { OnOk result (map node out.new.items ≡ map node out.old.items ++ (listing (low_test (shape_of s.now) (texpr x.now) t at.next at.local))) }
     ensures sizes { OnOk result (structures.new.items ≡ structures.old.items ++ value_sizes (shape_of s.now) (texpr x.now)) }
     ensures next { IfOk result (λ r. r.next ≡ at.next + value_temps (texpr x.now)) }
     ensures local { IfOk result (λ r. r.local ≡ at.local + length (value_sizes (shape_of s.now) (texpr x.now))) }
@@ -311,7 +312,7 @@ fn first_value<'x>(
     requires temps { at.next + (value_temps (texpr x.now) + 1) ≤ 1000000 }
     requires locals { at.local + length (value_sizes (shape_of s.now) (texpr x.now)) ≤ 1000000 }
     ensures nodes { OnOk result (map node out.new.items ≡ map node out.old.items
-        ++ low_value (shape_of s.now) (texpr x.now) at.next (at.next + 1) at.local) }
+        ++ listing (low_value (shape_of s.now) (texpr x.now) at.next (at.next + 1) at.local)) }
     ensures sizes { OnOk result (structures.new.items ≡ structures.old.items ++ value_sizes (shape_of s.now) (texpr x.now)) }
     ensures ty { IfOk result (λ r. ctype r.ty.now ≡ type_of (texpr x.now)) }
     ensures temporary { IfOk result (λ r. r.temporary ≡ at.next) }
@@ -339,7 +340,7 @@ fn first_place<'x>(
     requires temps { at.next + (temps (texpr x.now) + 1) ≤ 1000000 }
     requires locals { at.local + length (sizes (shape_of s.now) (texpr x.now)) ≤ 1000000 }
     ensures nodes { OnOk result (map node out.new.items ≡ map node out.old.items
-        ++ low (shape_of s.now) (texpr x.now) at.next (at.next + 1) at.local) }
+        ++ listing (low (shape_of s.now) (texpr x.now) at.next (at.next + 1) at.local)) }
     ensures sizes { OnOk result (structures.new.items ≡ structures.old.items ++ sizes (shape_of s.now) (texpr x.now)) }
     ensures ty { IfOk result (λ r. ctype r.ty.now ≡ type_of (texpr x.now)) }
     ensures temporary { IfOk result (λ r. r.temporary ≡ at.next) }
@@ -369,9 +370,9 @@ fn operation(
     requires temps { first.free.next + (value_temps (texpr y.now) + 2) ≤ 1000000 }
     requires locals { first.free.local + length (value_sizes (shape_of s.now) (texpr y.now)) ≤ 1000000 }
     ensures nodes { OnOk result (map node out.new.items ≡ map node out.old.items
-        ++ low_value (shape_of s.now) (texpr y.now) first.entry.free.next (first.entry.free.next + 1) first.entry.free.local
-        ++ operated (shape_of s.now) op (ctype first.entry.ty.now) (type_of (texpr y.now)) t first.entry.temporary first.entry.free.next
-        (second (texpr y.now) first.entry.free.next)) }
+        ++ listing (low_value (shape_of s.now) (texpr y.now) first.entry.free.next (first.entry.free.next + 1) first.entry.free.local)
+        ++ listing (operated (shape_of s.now) op (ctype first.entry.ty.now) (type_of (texpr y.now)) t first.entry.temporary first.entry.free.next
+        (second (texpr y.now) first.entry.free.next))) }
     ensures sizes { OnOk result (structures.new.items ≡ structures.old.items ++ value_sizes (shape_of s.now) (texpr y.now)) }
     ensures next { IfOk result (λ r. r.next ≡ first.entry.free.next + (value_temps (texpr y.now) + 2)) }
     ensures local { IfOk result (λ r. r.local ≡ first.entry.free.local + length (value_sizes (shape_of s.now) (texpr y.now))) }
@@ -403,7 +404,8 @@ fn choice(
     requires temps { at.next + (value_temps (texpr y.now) + 3) ≤ 1000000 }
     requires locals { at.local + length (value_sizes (shape_of s.now) (texpr y.now)) ≤ 1000000 }
     ensures nodes { OnOk result (map node out.new.items ≡ map node out.old.items
-        ++ (lazy_choice and t (low_test (shape_of s.now) (texpr y.now) t (at.next + 1) at.local ++ as_flag (tests_flag (texpr y.now)) t) ∷ [])) }
+        ++ lazy_choice and t (listing (low_test (shape_of s.now) (texpr y.now) t (at.next + 1) at.local)
+        ++ listing (as_flag (tests_flag (texpr y.now)) t))) }
     ensures sizes { OnOk result (structures.new.items ≡ structures.old.items ++ value_sizes (shape_of s.now) (texpr y.now)) }
     ensures next { IfOk result (λ r. r.next ≡ at.next + (value_temps (texpr y.now) + 3)) }
     ensures local { IfOk result (λ r. r.local ≡ at.local + length (value_sizes (shape_of s.now) (texpr y.now))) }
@@ -435,9 +437,9 @@ fn assignment(
     requires temps { place.free.next + (value_temps (texpr y.now) + 2) ≤ 1000000 }
     requires locals { place.free.local + length (value_sizes (shape_of s.now) (texpr y.now)) ≤ 1000000 }
     ensures nodes { OnOk result (map node out.new.items ≡ map node out.old.items
-        ++ low_value (shape_of s.now) (texpr y.now) t (place.entry.free.next + 2) place.entry.free.local
-        ++ converted (ctype place.entry.ty.now) (is_flag (texpr y.now)) t
-        ++ stored (shape_of s.now) (ctype place.entry.ty.now) place.entry.temporary t) }
+        ++ listing (low_value (shape_of s.now) (texpr y.now) t (place.entry.free.next + 2) place.entry.free.local)
+        ++ listing (converted (ctype place.entry.ty.now) (is_flag (texpr y.now)) t)
+        ++ listing (stored (shape_of s.now) (ctype place.entry.ty.now) place.entry.temporary t)) }
     ensures sizes { OnOk result (structures.new.items ≡ structures.old.items ++ value_sizes (shape_of s.now) (texpr y.now)) }
     ensures next { IfOk result (λ r. r.next ≡ place.entry.free.next + (value_temps (texpr y.now) + 2)) }
     ensures local { IfOk result (λ r. r.local ≡ place.entry.free.local + length (value_sizes (shape_of s.now) (texpr y.now))) }
@@ -462,11 +464,11 @@ fn compound_assignment(
     requires temps { place.free.next + (value_temps (texpr y.now) + 2) ≤ 1000000 }
     requires locals { place.free.local + length (value_sizes (shape_of s.now) (texpr y.now)) ≤ 1000000 }
     ensures nodes { OnOk result (map node out.new.items ≡ map node out.old.items
-        ++ low_value (shape_of s.now) (texpr y.now) place.entry.free.next (place.entry.free.next + 2) place.entry.free.local
+        ++ listing (low_value (shape_of s.now) (texpr y.now) place.entry.free.next (place.entry.free.next + 2) place.entry.free.local)
         ++ (DoN (Op.Load t place.entry.temporary) ∷ [])
-        ++ operated (shape_of s.now) op (ctype place.entry.ty.now) (type_of (texpr y.now)) t t
-        place.entry.free.next (place.entry.free.next + 1)
-        ++ converted (ctype place.entry.ty.now) false t
+        ++ listing (operated (shape_of s.now) op (ctype place.entry.ty.now) (type_of (texpr y.now)) t t
+        place.entry.free.next (place.entry.free.next + 1))
+        ++ listing (converted (ctype place.entry.ty.now) false t)
         ++ (DoN (Op.Store place.entry.temporary t) ∷ [])) }
     ensures sizes { OnOk result (structures.new.items ≡ structures.old.items ++ value_sizes (shape_of s.now) (texpr y.now)) }
     ensures next { IfOk result (λ r. r.next ≡ place.entry.free.next + (value_temps (texpr y.now) + 2)) }
@@ -499,7 +501,7 @@ fn step_of(
     requires temps { at.next + (temps (texpr x.now) + 2) ≤ 1000000 }
     requires locals { at.local + length (sizes (shape_of s.now) (texpr x.now)) ≤ 1000000 }
     ensures nodes { OnOk result (map node out.new.items ≡ map node out.old.items
-        ++ (step_taken (shape_of s.now) op (texpr x.now) (low (shape_of s.now) (texpr x.now)) t at.next at.local)) }
+        ++ (listing (step_taken (shape_of s.now) op (texpr x.now) (low (shape_of s.now) (texpr x.now)) t at.next at.local))) }
     ensures sizes { OnOk result (structures.new.items ≡ structures.old.items ++ sizes (shape_of s.now) (texpr x.now)) }
     ensures next { IfOk result (λ r. r.next ≡ at.next + (temps (texpr x.now) + 2)) }
     ensures local { IfOk result (λ r. r.local ≡ at.local + length (sizes (shape_of s.now) (texpr x.now))) }
@@ -524,9 +526,9 @@ fn element(
     requires temps { first.free.next + (value_temps (texpr y.now) + 1 + size_temps (ctype ty.now)) ≤ 1000000 }
     requires locals { first.free.local + length (value_sizes (shape_of s.now) (texpr y.now)) ≤ 1000000 }
     ensures nodes { OnOk result (map node out.new.items ≡ map node out.old.items
-        ++ low_value (shape_of s.now) (texpr y.now) first.entry.free.next (first.entry.free.next + 1) first.entry.free.local
-        ++ stepped (words (shape_of s.now) (ctype ty.now)) t first.entry.temporary first.entry.free.next
-        (second (texpr y.now) first.entry.free.next)) }
+        ++ listing (low_value (shape_of s.now) (texpr y.now) first.entry.free.next (first.entry.free.next + 1) first.entry.free.local)
+        ++ listing (stepped (words (shape_of s.now) (ctype ty.now)) t first.entry.temporary first.entry.free.next
+        (second (texpr y.now) first.entry.free.next))) }
     ensures sizes { OnOk result (structures.new.items ≡ structures.old.items ++ value_sizes (shape_of s.now) (texpr y.now)) }
     ensures next { IfOk result (λ r. r.next ≡ first.entry.free.next + (value_temps (texpr y.now) + 1 + size_temps (ctype ty.now))) }
     ensures local { IfOk result (λ r. r.local ≡ first.entry.free.local + length (value_sizes (shape_of s.now) (texpr y.now))) }
@@ -551,8 +553,8 @@ fn member_at(
     requires temps { at.next + (temps (texpr x.now) + 1) ≤ 1000000 }
     requires locals { at.local + length (sizes (shape_of s.now) (texpr x.now)) ≤ 1000000 }
     ensures nodes { OnOk result (map node out.new.items ≡ map node out.old.items
-        ++ (low (shape_of s.now) (texpr x.now) at.next (at.next + 1) at.local ++ moved_by t at.next of.entry.offset
-        ++ member_of (is_place (texpr x.now)) (ctype of.entry.ty.now) t)) }
+        ++ (listing (low (shape_of s.now) (texpr x.now) at.next (at.next + 1) at.local) ++ listing (moved_by t at.next of.entry.offset)
+        ++ listing (member_of (is_place (texpr x.now)) (ctype of.entry.ty.now) t))) }
     ensures sizes { OnOk result (structures.new.items ≡ structures.old.items ++ sizes (shape_of s.now) (texpr x.now)) }
     ensures next { IfOk result (λ r. r.next ≡ at.next + (temps (texpr x.now) + 1)) }
     ensures local { IfOk result (λ r. r.local ≡ at.local + length (sizes (shape_of s.now) (texpr x.now))) }
@@ -576,7 +578,7 @@ fn arrow(
     requires temps { at.next + (value_temps (texpr x.now) + 1) ≤ 1000000 }
     requires locals { at.local + length (value_sizes (shape_of s.now) (texpr x.now)) ≤ 1000000 }
     ensures nodes { OnOk result (map node out.new.items ≡ map node out.old.items
-        ++ (low_value (shape_of s.now) (texpr x.now) at.next (at.next + 1) at.local ++ moved_by t at.next offset)) }
+        ++ (listing (low_value (shape_of s.now) (texpr x.now) at.next (at.next + 1) at.local) ++ listing (moved_by t at.next offset))) }
     ensures sizes { OnOk result (structures.new.items ≡ structures.old.items ++ value_sizes (shape_of s.now) (texpr x.now)) }
     ensures next { IfOk result (λ r. r.next ≡ at.next + (value_temps (texpr x.now) + 1)) }
     ensures local { IfOk result (λ r. r.local ≡ at.local + length (value_sizes (shape_of s.now) (texpr x.now))) }
@@ -600,7 +602,7 @@ fn cast(
     requires temps { at.next + value_temps (texpr x.now) ≤ 1000000 }
     requires locals { at.local + length (value_sizes (shape_of s.now) (texpr x.now)) ≤ 1000000 }
     ensures nodes { OnOk result (map node out.new.items ≡ map node out.old.items
-        ++ (low_value (shape_of s.now) (texpr x.now) t at.next at.local ++ converted (ctype ty.now) (is_flag (texpr x.now)) t)) }
+        ++ (listing (low_value (shape_of s.now) (texpr x.now) t at.next at.local) ++ listing (converted (ctype ty.now) (is_flag (texpr x.now)) t))) }
     ensures sizes { OnOk result (structures.new.items ≡ structures.old.items ++ value_sizes (shape_of s.now) (texpr x.now)) }
     ensures next { IfOk result (λ r. r.next ≡ at.next + value_temps (texpr x.now)) }
     ensures local { IfOk result (λ r. r.local ≡ at.local + length (value_sizes (shape_of s.now) (texpr x.now))) }
@@ -625,9 +627,9 @@ fn call_of(
     requires locals { at.local + length (sizes_all (shape_of s.now) (texprs (map texpr xs.now))
         ++ one_size (shape_of s.now) (result_of (shape_of s.now) f)) ≤ 1000000 }
     ensures nodes { OnOk result (map node out.new.items ≡ map node out.old.items
-        ++ (low_args (shape_of s.now) (params_of (shape_of s.now) f) (texprs (map texpr xs.now)) at.next at.local
-        ++ called (result_of (shape_of s.now) f) f (at.local + length (sizes_all (shape_of s.now) (texprs (map texpr xs.now)))) t
-        (spots (texprs (map texpr xs.now)) at.next))) }
+        ++ (listing (low_args (shape_of s.now) (params_of (shape_of s.now) f) (texprs (map texpr xs.now)) at.next at.local)
+        ++ listing (called (result_of (shape_of s.now) f) f (at.local + length (sizes_all (shape_of s.now) (texprs (map texpr xs.now)))) t
+        (spots (texprs (map texpr xs.now)) at.next)))) }
     ensures sizes { OnOk result (structures.new.items ≡ structures.old.items ++ sizes_all (shape_of s.now) (texprs (map texpr xs.now))
         ++ one_size (shape_of s.now) (result_of (shape_of s.now) f)) }
     ensures next { IfOk result (λ r. r.next ≡ at.next + temps_all (texprs (map texpr xs.now))) }
@@ -659,7 +661,7 @@ fn args(
     requires temps { at.next + temps_all (texprs (map texpr xs.now)) ≤ 1000000 }
     requires locals { at.local + length (sizes_all (shape_of s.now) (texprs (map texpr xs.now))) ≤ 1000000 }
     ensures nodes { OnOk result (map node out.new.items ≡ map node out.old.items
-        ++ low_args (shape_of s.now) (params_of (shape_of s.now) f) (texprs (map texpr xs.now)) at.next at.local) }
+        ++ listing (low_args (shape_of s.now) (params_of (shape_of s.now) f) (texprs (map texpr xs.now)) at.next at.local)) }
     ensures spots { OnOk result (places.new.items ≡ places.old.items ++ spots (texprs (map texpr xs.now)) at.next) }
     ensures sizes { OnOk result (structures.new.items ≡ structures.old.items ++ sizes_all (shape_of s.now) (texprs (map texpr xs.now))) }
     ensures next { IfOk result (λ r. r.next ≡ at.next + temps_all (texprs (map texpr xs.now))) }

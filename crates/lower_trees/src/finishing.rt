@@ -5,9 +5,10 @@ ghost use Rattle.mid_code.specs.Functions.{DoN, node};
 ghost use Rattle.lower_trees.specs.Shape.{words};
 ghost use Rattle.lower_trees.specs.Counts.{one_size};
 ghost use Rattle.c_types.specs.Kinds.{is_void};
-ghost use Rattle.lower_trees.specs.Expressions.{later_types};
-ghost use Rattle.lower_trees.specs.ListedParts.{as_flag, converted, stored, operated, moved_by, structure_read};
-ghost use Rattle.lower_trees.specs.ListedExpressions.{lazy_choice, step_by, stepped_to, member_of, led, called_with, converted_to};
+ghost use Rattle.lower_trees.specs.Pieces.{listing};
+ghost use Rattle.lower_trees.specs.Parts.{as_flag, converted, stored, operated, moved_by, structure_read};
+ghost use Rattle.lower_trees.specs.Expressions.{later_types, step_by, stepped_to, member_of, led, called_with, converted_to};
+ghost use Rattle.lower_trees.specs.inner.Enclosed.{lazy_choice};
 ghost use Rattle.c_types.specs.View.{or_void};
 ghost use Rattle.lower_trees.specs.inner.MaybeTypes.{or_none};
 ghost use Rattle.lower_trees.specs.View.{shape_of};
@@ -33,7 +34,8 @@ pub(crate) fn take_structure(
     at: At,
 ) -> Result<At, Memory>
     requires locals { at.local + 1 ≤ 1000000 }
-    ensures nodes { OnOk result (map node out.new.items ≡ map node out.old.items ++ structure_read (words (shape_of s.now) (ctype ty.now)) at.local t) }
+    ensures nodes { OnOk result (map node out.new.items ≡ map node out.old.items
+        ++ listing (structure_read (words (shape_of s.now) (ctype ty.now)) at.local t)) }
     ensures sizes { OnOk result (structures.new.items ≡ structures.old.items ++ words (shape_of s.now) (ctype ty.now) ∷ []) }
     ensures next { IfOk result (λ r. r.next ≡ at.next) }
     ensures local { IfOk result (λ r. r.local ≡ at.local + 1) }
@@ -55,7 +57,7 @@ fn put_lazy(
     t: u32,
     last: Vec<Node<u32>>,
 ) -> Result<(), Memory>
-    ensures { OnOk result (map node out.new.items ≡ map node out.old.items ++ lazy_choice and t (map node last.items) ∷ []) }
+    ensures { OnOk result (map node out.new.items ≡ map node out.old.items ++ lazy_choice and t (map node last.items)) }
 {
     let mut known = Vec::new(alloc);
     if and {
@@ -79,7 +81,7 @@ pub(crate) fn choose_lazy(
     at: At,
 ) -> Result<At, Memory>
     requires next { at.next + 2 ≤ 1000000 }
-    ensures nodes { OnOk result (map node out.new.items ≡ map node out.old.items ++ lazy_choice and t (map node last.items ++ as_flag flag t) ∷ []) }
+    ensures nodes { OnOk result (map node out.new.items ≡ map node out.old.items ++ lazy_choice and t (map node last.items ++ listing (as_flag flag t))) }
     ensures next { IfOk result (λ r. r.next ≡ at.next + 2) }
     ensures local { IfOk result (λ r. r.local ≡ at.local) }
 {
@@ -102,8 +104,8 @@ pub(crate) fn assign(
     t: u32,
     at: At,
 ) -> Result<At, Memory>
-    ensures nodes { OnOk result (map node out.new.items ≡ map node out.old.items ++ converted (ctype ty.now) known t
-        ++ stored (shape_of s.now) (ctype ty.now) p t) }
+    ensures nodes { OnOk result (map node out.new.items ≡ map node out.old.items ++ listing (converted (ctype ty.now) known t)
+        ++ listing (stored (shape_of s.now) (ctype ty.now) p t)) }
     ensures at { IfOk result (λ r. r ≡ at) }
 {
     convert(out, ty, known, t)?;
@@ -122,8 +124,8 @@ pub(crate) fn compound(
     p: u32,
 ) -> Result<(), Memory>
     ensures { OnOk result (map node out.new.items ≡ map node out.old.items ++ DoN (Op.Load k.first p) ∷ []
-        ++ operated (shape_of s.now) op (ctype ty.now) (ctype other.now) k.target k.first k.second k.scale
-        ++ converted (ctype ty.now) false k.target ++ DoN (Op.Store p k.target) ∷ []) }
+        ++ listing (operated (shape_of s.now) op (ctype ty.now) (ctype other.now) k.target k.first k.second k.scale)
+        ++ listing (converted (ctype ty.now) false k.target) ++ DoN (Op.Store p k.target) ∷ []) }
 {
     put(out, Op::Load(k.first, p))?;
     operate(s, out, op, ty, other, k)?;
@@ -141,7 +143,7 @@ fn step_to(
     p: u32,
 ) -> Result<(), Memory>
     requires next { p + 1 ≤ 1000000 }
-    ensures nodes { OnOk result (map node out.new.items ≡ map node out.old.items ++ stepped_to (shape_of s.now) up (ctype ty.now) new old p) }
+    ensures nodes { OnOk result (map node out.new.items ≡ map node out.old.items ++ listing (stepped_to (shape_of s.now) up (ctype ty.now) new old p)) }
 {
     put(out, Op::Load(old, p))?;
     step_one(s, out, up, ty, new, old, p + 1)?;
@@ -161,7 +163,7 @@ pub(crate) fn step(
     p: u32,
 ) -> Result<(), Memory>
     requires next { p + 1 ≤ 1000000 }
-    ensures nodes { OnOk result (map node out.new.items ≡ map node out.old.items ++ step_by (shape_of s.now) old up (ctype ty.now) t p) }
+    ensures nodes { OnOk result (map node out.new.items ≡ map node out.old.items ++ listing (step_by (shape_of s.now) old up (ctype ty.now) t p)) }
 {
     if old {
         step_to(s, out, up, ty, p + 1, t, p)
@@ -171,7 +173,7 @@ pub(crate) fn step(
 }
 
 fn load_member(out: &mut Vec<Node<u32>>, place: bool, ty: &CType, t: u32) -> Result<(), Memory>
-    ensures { OnOk result (map node out.new.items ≡ map node out.old.items ++ member_of place (ctype ty.now) t) }
+    ensures { OnOk result (map node out.new.items ≡ map node out.old.items ++ listing (member_of place (ctype ty.now) t)) }
 {
     if place {
         return Ok(());
@@ -193,7 +195,8 @@ pub(crate) fn member(
     offset: u32,
     at: At,
 ) -> Result<At, Memory>
-    ensures nodes { OnOk result (map node out.new.items ≡ map node out.old.items ++ moved_by t p offset ++ member_of place (ctype ty.now) t) }
+    ensures nodes { OnOk result (map node out.new.items ≡ map node out.old.items ++ listing (moved_by t p offset)
+        ++ listing (member_of place (ctype ty.now) t)) }
     ensures at { IfOk result (λ r. r ≡ at) }
 {
     move_by(out, t, p, offset)?;
@@ -239,7 +242,7 @@ fn call_giving(
 ) -> Result<At, Memory>
     requires locals { at.local + length (one_size (shape_of s.now) (ctype ty.now)) ≤ 1000000 }
     ensures nodes { OnOk result (map node out.new.items ≡ map node out.old.items
-        ++ called_with (ctype ty.now) to.function at.local to.target args.items) }
+        ++ listing (called_with (ctype ty.now) to.function at.local to.target args.items)) }
     ensures sizes { OnOk result (structures.new.items ≡ structures.old.items ++ one_size (shape_of s.now) (ctype ty.now)) }
     ensures next { IfOk result (λ r. r.next ≡ at.next) }
     ensures local { IfOk result (λ r. r.local ≡ at.local + length (one_size (shape_of s.now) (ctype ty.now))) }
@@ -272,7 +275,7 @@ pub(crate) fn call(
 ) -> Result<At, Memory>
     requires locals { at.local + length (one_size (shape_of s.now) (or_void ty)) ≤ 1000000 }
     ensures nodes { OnOk result (map node out.new.items ≡ map node out.old.items
-        ++ called_with (or_void ty.entry) to.function at.local to.target args.items) }
+        ++ listing (called_with (or_void ty.entry) to.function at.local to.target args.items)) }
     ensures sizes { OnOk result (structures.new.items ≡ structures.old.items ++ one_size (shape_of s.now) (or_void ty.entry)) }
     ensures next { IfOk result (λ r. r.next ≡ at.next) }
     ensures local { IfOk result (λ r. r.local ≡ at.local + length (one_size (shape_of s.now) (or_void ty.entry))) }
@@ -293,7 +296,7 @@ pub(crate) fn convert_first(
     known: bool,
     t: u32,
 ) -> Result<(), Memory>
-    ensures { OnOk result (map node out.new.items ≡ map node out.old.items ++ converted_to (or_none types.entry) known t) }
+    ensures { OnOk result (map node out.new.items ≡ map node out.old.items ++ listing (converted_to (or_none types.entry) known t)) }
 {
     match types {
         None => Ok(()),

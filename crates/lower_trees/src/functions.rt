@@ -3,10 +3,11 @@ ghost use Rattle.std.specs.Prelude.{◌≡◌, ◌≤◌, ◌+◌, ◌++◌, not
 ghost use Rattle.c_types.specs.View.{ctype, tstmt, tstmts, function};
 ghost use Rattle.c_types.specs.Kinds.{is_structure, is_void};
 ghost use Rattle.mid_code.specs.Functions.{node, function as function_of};
+ghost use Rattle.lower_trees.specs.Pieces.{listing};
 ghost use Rattle.lower_trees.specs.Parts.{param_at};
+ghost use Rattle.lower_trees.specs.Lowered.{args_from, with_result, received, all_received, low_body};
+ghost use Rattle.lower_trees.specs.ListedFunctions.{low_function, low_start, IsFew, IsFewIn, AreFew};
 ghost use Rattle.lower_trees.specs.Counts.{stmts_sizes};
-ghost use Rattle.lower_trees.specs.Lowered.{args_from, with_result};
-ghost use Rattle.lower_trees.specs.ListedFunctions.{received, all_received, low_body, low_function, low_start, IsFew, IsFewIn, AreFew};
 ghost use Rattle.lower_trees.specs.View.{shape_of};
 
 use crate::at::from;
@@ -36,7 +37,7 @@ fn receive(
     k: u32,
     a: u32,
 ) -> Result<(), Memory>
-    ensures { OnOk result (map node out.new.items ≡ map node out.old.items ++ received (shape_of s.now) (ctype ty.now) k a) }
+    ensures { OnOk result (map node out.new.items ≡ map node out.old.items ++ listing (received (shape_of s.now) (ctype ty.now) k a)) }
 {
     if is_structure(ty) {
         put(out, Op::Move(FROM, a))?;
@@ -50,7 +51,7 @@ fn receive(
 
 fn receive_all(s: &Reading<'_>, out: &mut Vec<Node<u32>>, tys: &[CType]) -> Result<(), Memory>
     requires { length tys.now ≤ 1000000 }
-    ensures { OnOk result (map node out.new.items ≡ map node out.old.items ++ all_received (shape_of s.now) (map ctype tys.now) 0 FIRST_PARAM) }
+    ensures { OnOk result (map node out.new.items ≡ map node out.old.items ++ listing (all_received (shape_of s.now) (map ctype tys.now) 0 FIRST_PARAM)) }
 {
     let mut k = 0;
     let mut a = FIRST_PARAM;
@@ -89,7 +90,7 @@ fn body<'x>(
     structures: &mut Vec<u32>,
 ) -> Result<(Vec<Node<u32>>, u32), Memory>
     requires fits { IsFewIn (shape_of s.now) (function f.now) }
-    ensures nodes { IfOk result (λ r. map node r.0.items ≡ low_body (shape_of s.now) (function f.now)) }
+    ensures nodes { IfOk result (λ r. map node r.0.items ≡ listing (low_body (shape_of s.now) (function f.now))) }
     ensures temps { IfOk result (λ r. r.1 ≡ (low_function (shape_of s.now) (function f.now)).temps) }
     ensures sizes { OnOk result (structures.new.items ≡ structures.old.items ++ stmts_sizes (shape_of s.now) (function f.now).body) }
 {

@@ -3,10 +3,10 @@ ghost use Rattle.std.specs.Prelude.{◌≡◌, ◌≤◌, ◌+◌, ◌-◌, ◌+
 ghost use Rattle.c_types.specs.View.{ctype, tinit, tinits, tvar};
 ghost use Rattle.mid_code.specs.Functions.{node};
 ghost use Rattle.lower_trees.specs.Counts.{init_temps, inits_temps, init_sizes, inits_sizes, vars_temps, vars_sizes, behind_address};
-ghost use Rattle.lower_trees.specs.Initialisers.{address_of};
-ghost use Rattle.lower_trees.specs.ListedInitialisers.{part_at, cell_filled, part_filled, part_zeroed, low_text, low_rest, low_init, low_inits};
-ghost use Rattle.lower_trees.specs.ListedInitialisers.{object_to, low_vars};
-ghost use Rattle.lower_trees.specs.ListedParts.{converted};
+ghost use Rattle.lower_trees.specs.Pieces.{listing};
+ghost use Rattle.lower_trees.specs.Parts.{converted};
+ghost use Rattle.lower_trees.specs.Initialisers.{address_of, part_at, cell_filled, part_filled, part_zeroed, low_text, low_rest};
+ghost use Rattle.lower_trees.specs.Initialisers.{low_init, low_inits, object_to, low_vars};
 ghost use Rattle.c_types.specs.View.{or_void};
 ghost use Rattle.lower_trees.specs.View.{shape_of};
 
@@ -22,8 +22,9 @@ use mid_code::{Node, Op};
 use std::alloc::Global;
 
 /// Makes a pointer to the part that is written.
+#[tactic(auto, using(crate::proofs::Filled::at_none, crate::proofs::Filled::at_some))]
 fn point(out: &mut Vec<Node<u32>>, p: u32, offset: u32) -> Result<(), Memory>
-    ensures { OnOk result (map node out.new.items ≡ map node out.old.items ++ part_at p offset) }
+    ensures { OnOk result (map node out.new.items ≡ map node out.old.items ++ listing (part_at p offset)) }
 {
     if offset == 0 {
         put(out, Op::Move(TO, p))
@@ -32,8 +33,9 @@ fn point(out: &mut Vec<Node<u32>>, p: u32, offset: u32) -> Result<(), Memory>
     }
 }
 
+#[tactic(auto, using(crate::proofs::Filled::filled_none, crate::proofs::Filled::filled_some))]
 fn fill_cell(out: &mut Vec<Node<u32>>, p: u32, offset: u32) -> Result<(), Memory>
-    ensures { OnOk result (map node out.new.items ≡ map node out.old.items ++ cell_filled p offset) }
+    ensures { OnOk result (map node out.new.items ≡ map node out.old.items ++ listing (cell_filled p offset)) }
 {
     if offset == 0 {
         put(out, Op::Store(p, ITEM))
@@ -50,7 +52,7 @@ fn fill_part(
     p: u32,
     offset: u32,
 ) -> Result<(), Memory>
-    ensures { OnOk result (map node out.new.items ≡ map node out.old.items ++ part_filled (shape_of s.now) (ctype ty.now) p offset) }
+    ensures { OnOk result (map node out.new.items ≡ map node out.old.items ++ listing (part_filled (shape_of s.now) (ctype ty.now) p offset)) }
 {
     if is_structure(ty) {
         put(out, Op::Move(FROM, ITEM))?;
@@ -70,8 +72,8 @@ fn fill(
     p: u32,
     offset: u32,
 ) -> Result<(), Memory>
-    ensures { OnOk result (map node out.new.items ≡ map node out.old.items ++ converted (or_void ty.entry) known ITEM
-        ++ part_filled (shape_of s.now) (or_void ty.entry) p offset) }
+    ensures { OnOk result (map node out.new.items ≡ map node out.old.items ++ listing (converted (or_void ty.entry) known ITEM)
+        ++ listing (part_filled (shape_of s.now) (or_void ty.entry) p offset)) }
 {
     match ty {
         None => fill_cell(out, p, offset),
@@ -83,6 +85,7 @@ fn fill(
 }
 
 /// Sets `size` cells of the part to 0.
+#[tactic(auto, using(crate::proofs::Filled::part_none, crate::proofs::Filled::part_some))]
 fn zero_part(
     alloc: Global,
     out: &mut Vec<Node<u32>>,
@@ -90,7 +93,7 @@ fn zero_part(
     offset: u32,
     size: u32,
 ) -> Result<(), Memory>
-    ensures { OnOk result (map node out.new.items ≡ map node out.old.items ++ part_zeroed p offset size) }
+    ensures { OnOk result (map node out.new.items ≡ map node out.old.items ++ listing (part_zeroed p offset size)) }
 {
     if size == 0 {
         return Ok(());
@@ -108,7 +111,7 @@ fn fill_text(
     p: u32,
     offset: u32,
 ) -> Result<(), Memory>
-    ensures { OnOk result (map node out.new.items ≡ map node out.old.items ++ low_text (shape_of s.now) number size p offset) }
+    ensures { OnOk result (map node out.new.items ≡ map node out.old.items ++ listing (low_text (shape_of s.now) number size p offset)) }
 {
     let words = s.literal_words(number);
     put(out, Op::Literal(FROM, number))?;
@@ -139,7 +142,7 @@ fn fill_rest(
     p: u32,
     offset: u32,
 ) -> Result<(), Memory>
-    ensures { OnOk result (map node out.new.items ≡ map node out.old.items ++ low_rest (shape_of s.now) (or_void ty.entry) k p offset) }
+    ensures { OnOk result (map node out.new.items ≡ map node out.old.items ++ listing (low_rest (shape_of s.now) (or_void ty.entry) k p offset)) }
 {
     match ty {
         Some(CType::Array(of, length)) => {
@@ -179,7 +182,7 @@ fn initialise<'x>(
     requires temps { at.next + init_temps (tinit of.now) ≤ 1000000 }
     requires locals { at.local + length (init_sizes (shape_of s.now) (tinit of.now)) ≤ 1000000 }
     ensures nodes { OnOk result (map node out.new.items ≡ map node out.old.items
-        ++ low_init (shape_of s.now) (tinit of.now) (or_void part.entry.ty) part.entry.pointer part.entry.offset at.next at.local) }
+        ++ listing (low_init (shape_of s.now) (tinit of.now) (or_void part.entry.ty) part.entry.pointer part.entry.offset at.next at.local)) }
     ensures sizes { OnOk result (structures.new.items ≡ structures.old.items ++ init_sizes (shape_of s.now) (tinit of.now)) }
     ensures next { IfOk result (λ r. r.next ≡ at.next + init_temps (tinit of.now)) }
     ensures local { IfOk result (λ r. r.local ≡ at.local + length (init_sizes (shape_of s.now) (tinit of.now))) }
@@ -213,8 +216,8 @@ fn initialise_all<'x>(
     requires temps { at.next + inits_temps (tinits (map tinit items.now)) ≤ 1000000 }
     requires locals { at.local + length (inits_sizes (shape_of s.now) (tinits (map tinit items.now))) ≤ 1000000 }
     ensures nodes { OnOk result (map node out.new.items ≡ map node out.old.items
-        ++ low_inits (shape_of s.now) (tinits (map tinit items.now)) (or_void part.entry.ty) 0
-        part.entry.pointer part.entry.offset at.next at.local) }
+        ++ listing (low_inits (shape_of s.now) (tinits (map tinit items.now)) (or_void part.entry.ty) 0
+        part.entry.pointer part.entry.offset at.next at.local)) }
     ensures sizes { OnOk result (structures.new.items ≡ structures.old.items ++ inits_sizes (shape_of s.now) (tinits (map tinit items.now))) }
     ensures next { IfOk result (λ r. r.next ≡ at.next + inits_temps (tinits (map tinit items.now))) }
     ensures local { IfOk result (λ r. r.local ≡ at.local + length (inits_sizes (shape_of s.now) (tinits (map tinit items.now)))) }
@@ -235,7 +238,7 @@ fn initialise_all<'x>(
 }
 
 fn object_to(out: &mut Vec<Node<u32>>, global: bool, number: u32, t: u32) -> Result<(), Memory>
-    ensures { OnOk result (map node out.new.items ≡ map node out.old.items ++ object_to global number t) }
+    ensures { OnOk result (map node out.new.items ≡ map node out.old.items ++ listing (object_to global number t)) }
 {
     if global {
         put(out, Op::Global(t, number))
@@ -277,7 +280,7 @@ pub(crate) fn variables<'x>(
 ) -> Result<At, Memory>
     requires temps { at.next + vars_temps (map tvar vs.now) ≤ 1000000 }
     requires locals { at.local + length (vars_sizes (shape_of s.now) (map tvar vs.now)) ≤ 1000000 }
-    ensures nodes { OnOk result (map node out.new.items ≡ map node out.old.items ++ low_vars (shape_of s.now) (map tvar vs.now) at.next at.local) }
+    ensures nodes { OnOk result (map node out.new.items ≡ map node out.old.items ++ listing (low_vars (shape_of s.now) (map tvar vs.now) at.next at.local)) }
     ensures sizes { OnOk result (structures.new.items ≡ structures.old.items ++ vars_sizes (shape_of s.now) (map tvar vs.now)) }
     ensures next { IfOk result (λ r. r.next ≡ at.next + vars_temps (map tvar vs.now)) }
     ensures local { IfOk result (λ r. r.local ≡ at.local + length (vars_sizes (shape_of s.now) (map tvar vs.now))) }

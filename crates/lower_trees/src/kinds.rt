@@ -4,7 +4,7 @@ ghost use Rattle.c_types.specs.View.{ctype, texpr};
 ghost use Rattle.c_exprs.specs.Nodes.{is_place};
 ghost use Rattle.lower_trees.specs.Counts.{is_scalar};
 ghost use Rattle.lower_trees.specs.Flags.{is_bool, is_not, is_comparison, is_flag, tests_flag};
-ghost use Rattle.lower_trees.specs.ListedExpressions.{lazy_of, gives_old, counts_up};
+ghost use Rattle.lower_trees.specs.Expressions.{lazy_of, gives_old, counts_up};
 
 use c_tree::{BinOp, StepOp, UnOp};
 use c_types::{CType, TExpr, TKind, has_pointer_value};

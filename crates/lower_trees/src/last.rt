@@ -5,7 +5,8 @@ ghost use Rattle.c_types.specs.Kinds.{decayed};
 ghost use Rattle.mid_code.specs.Functions.{DoN, node};
 ghost use Rattle.lower_trees.specs.Shape.{words};
 ghost use Rattle.lower_trees.specs.Counts.{size_temps};
-ghost use Rattle.lower_trees.specs.ListedParts.{converted, stepped, moved_by, tested_as, negated_as};
+ghost use Rattle.lower_trees.specs.Pieces.{listing};
+ghost use Rattle.lower_trees.specs.Parts.{converted, stepped, moved_by, tested_as, negated_as};
 ghost use Rattle.lower_trees.specs.View.{shape_of};
 
 use crate::at::{At, from};
@@ -29,7 +30,7 @@ pub(crate) fn put_last(out: &mut Vec<Node<u32>>, o: Op<u32>, at: At) -> Result<A
 
 /// Makes a word of the condition in t.
 pub(crate) fn test_last(out: &mut Vec<Node<u32>>, ty: &CType, t: u32, at: At) -> Result<At, Memory>
-    ensures nodes { OnOk result (map node out.new.items ≡ map node out.old.items ++ tested_as (decayed (ctype ty.now)) t) }
+    ensures nodes { OnOk result (map node out.new.items ≡ map node out.old.items ++ listing (tested_as (decayed (ctype ty.now)) t)) }
     ensures at { IfOk result (λ r. r ≡ at) }
 {
     test_as(out, ty, t)?;
@@ -43,7 +44,7 @@ pub(crate) fn negate_last(
     t: u32,
     at: At,
 ) -> Result<At, Memory>
-    ensures nodes { OnOk result (map node out.new.items ≡ map node out.old.items ++ negated_as (decayed (ctype ty.now)) t) }
+    ensures nodes { OnOk result (map node out.new.items ≡ map node out.old.items ++ listing (negated_as (decayed (ctype ty.now)) t)) }
     ensures at { IfOk result (λ r. r ≡ at) }
 {
     negate_as(out, ty, t)?;
@@ -58,7 +59,7 @@ pub(crate) fn convert_last(
     t: u32,
     at: At,
 ) -> Result<At, Memory>
-    ensures nodes { OnOk result (map node out.new.items ≡ map node out.old.items ++ converted (ctype ty.now) known t) }
+    ensures nodes { OnOk result (map node out.new.items ≡ map node out.old.items ++ listing (converted (ctype ty.now) known t)) }
     ensures at { IfOk result (λ r. r ≡ at) }
 {
     convert(out, ty, known, t)?;
@@ -73,7 +74,7 @@ pub(crate) fn move_last(
     offset: u32,
     at: At,
 ) -> Result<At, Memory>
-    ensures nodes { OnOk result (map node out.new.items ≡ map node out.old.items ++ moved_by t p offset) }
+    ensures nodes { OnOk result (map node out.new.items ≡ map node out.old.items ++ listing (moved_by t p offset)) }
     ensures at { IfOk result (λ r. r ≡ at) }
 {
     move_by(out, t, p, offset)?;
@@ -91,7 +92,7 @@ pub(crate) fn step_last(
     at: At,
 ) -> Result<At, Memory>
     requires next { at.next + size_temps (ctype ty.now) ≤ 1000000 }
-    ensures nodes { OnOk result (map node out.new.items ≡ map node out.old.items ++ stepped (words (shape_of s.now) (ctype ty.now)) t a b at.next) }
+    ensures nodes { OnOk result (map node out.new.items ≡ map node out.old.items ++ listing (stepped (words (shape_of s.now) (ctype ty.now)) t a b at.next)) }
     ensures next { IfOk result (λ r. r.next ≡ at.next + size_temps (ctype ty.now)) }
     ensures local { IfOk result (λ r. r.local ≡ at.local) }
 {

@@ -3,13 +3,12 @@ ghost use Rattle.std.specs.Prelude.{◌≡◌, ◌≤◌, ◌+◌, ◌++◌, ◌
 ghost use Rattle.c_types.specs.View.{ctype, texpr, tarm, tarms};
 ghost use Rattle.mid_code.specs.Functions.{DoN, BlockN, LoopN, ChooseN, LeaveN, AgainN, ReturnN, listed, node};
 ghost use Rattle.lower_trees.specs.Counts.{maybe_temps, maybe_sizes, value_temps, value_sizes};
-ghost use Rattle.lower_trees.specs.Expressions.{second, beyond};
-ghost use Rattle.lower_trees.specs.ListedExpressions.{low_value, low_test};
-ghost use Rattle.lower_trees.specs.ListedParts.{converted};
+ghost use Rattle.lower_trees.specs.Pieces.{listing};
+ghost use Rattle.lower_trees.specs.Parts.{converted, one};
+ghost use Rattle.lower_trees.specs.Expressions.{second, beyond, low_value, low_test};
+ghost use Rattle.lower_trees.specs.Statements.{further, labels_before_default, depth, jump, tested_first, low_dropped, low_match, returned};
+ghost use Rattle.lower_trees.specs.inner.Enclosed.{chosen_by, turn_of, low_label};
 ghost use Rattle.lower_trees.specs.Flags.{is_flag};
-ghost use Rattle.lower_trees.specs.Parts.{one};
-ghost use Rattle.lower_trees.specs.Statements.{further, labels_before_default};
-ghost use Rattle.lower_trees.specs.ListedStatements.{depth, jump, tested_first, chosen_by, turn_of, low_dropped, low_match, low_label, returned};
 ghost use Rattle.lower_trees.specs.View.{shape_of, jump_of};
 
 use crate::at::{At, from};
@@ -47,7 +46,7 @@ pub(crate) fn leave(out: &mut Vec<Node<u32>>, k: u32, at: At) -> Result<At, Memo
 }
 
 pub(crate) fn jump(out: &mut Vec<Node<u32>>, j: JumpTo, at: At) -> Result<At, Memory>
-    ensures nodes { OnOk result (map node out.new.items ≡ map node out.old.items ++ jump (jump_of j)) }
+    ensures nodes { OnOk result (map node out.new.items ≡ map node out.old.items ++ listing (jump (jump_of j))) }
     ensures at { IfOk result (λ r. r ≡ at) }
 {
     match j {
@@ -98,7 +97,8 @@ pub(crate) fn condition(
 ) -> Result<At, Memory>
     requires temps { at.next + (value_temps (texpr x.now) + 1) ≤ 1000000 }
     requires locals { at.local + length (value_sizes (shape_of s.now) (texpr x.now)) ≤ 1000000 }
-    ensures nodes { OnOk result (map node out.new.items ≡ map node out.old.items ++ low_test (shape_of s.now) (texpr x.now) at.next (at.next + 1) at.local) }
+    ensures nodes { OnOk result (map node out.new.items ≡ map node out.old.items
+        ++ listing (low_test (shape_of s.now) (texpr x.now) at.next (at.next + 1) at.local)) }
     ensures sizes { OnOk result (structures.new.items ≡ structures.old.items ++ value_sizes (shape_of s.now) (texpr x.now)) }
     ensures next { IfOk result (λ r. r.next ≡ second (texpr x.now) at.next) }
     ensures local { IfOk result (λ r. r.local ≡ beyond (shape_of s.now) (texpr x.now) at.local) }
@@ -119,7 +119,7 @@ fn test_first(
     requires temps { at.next + maybe_temps (option_map (λ x. texpr x.now) test) ≤ 1000000 }
     requires locals { at.local + length (maybe_sizes (shape_of s.now) (option_map (λ x. texpr x.now) test)) ≤ 1000000 }
     ensures nodes { OnOk result (map node out.new.items ≡ map node out.old.items
-        ++ tested_first (shape_of s.now) (option_map (λ x. texpr x.now) test.entry) at.next at.local) }
+        ++ listing (tested_first (shape_of s.now) (option_map (λ x. texpr x.now) test.entry) at.next at.local)) }
     ensures sizes { OnOk result (structures.new.items ≡ structures.old.items ++ maybe_sizes (shape_of s.now) (option_map (λ x. texpr x.now) test.entry)) }
     ensures next { IfOk result (λ r. r.next ≡ at.next + maybe_temps (option_map (λ x. texpr x.now) test.entry)) }
     ensures local { IfOk result (λ r. r.local ≡ at.local + length (maybe_sizes (shape_of s.now) (option_map (λ x. texpr x.now) test.entry))) }
@@ -139,7 +139,8 @@ pub(crate) fn begin_turn(
 ) -> Result<(Vec<Node<u32>>, At), Memory>
     requires temps { at.next + maybe_temps (option_map (λ x. texpr x.now) test) ≤ 1000000 }
     requires locals { at.local + length (maybe_sizes (shape_of s.now) (option_map (λ x. texpr x.now) test)) ≤ 1000000 }
-    ensures nodes { IfOk result (λ r. map node r.0.items ≡ tested_first (shape_of s.now) (option_map (λ x. texpr x.now) test.entry) at.next at.local) }
+    ensures nodes { IfOk result (λ r. map node r.0.items
+        ≡ listing (tested_first (shape_of s.now) (option_map (λ x. texpr x.now) test.entry) at.next at.local)) }
     ensures sizes { OnOk result (structures.new.items ≡ structures.old.items ++ maybe_sizes (shape_of s.now) (option_map (λ x. texpr x.now) test.entry)) }
     ensures next { IfOk result (λ r. r.1.next ≡ at.next + maybe_temps (option_map (λ x. texpr x.now) test.entry)) }
     ensures local { IfOk result (λ r. r.1.local ≡ at.local + length (maybe_sizes (shape_of s.now) (option_map (λ x. texpr x.now) test.entry))) }
@@ -160,7 +161,7 @@ fn drop_value(
     requires temps { at.next + maybe_temps (option_map (λ x. texpr x.now) step) ≤ 1000000 }
     requires locals { at.local + length (maybe_sizes (shape_of s.now) (option_map (λ x. texpr x.now) step)) ≤ 1000000 }
     ensures nodes { OnOk result (map node out.new.items ≡ map node out.old.items
-        ++ low_dropped (shape_of s.now) (option_map (λ x. texpr x.now) step.entry) at.next at.local) }
+        ++ listing (low_dropped (shape_of s.now) (option_map (λ x. texpr x.now) step.entry) at.next at.local)) }
     ensures sizes { OnOk result (structures.new.items ≡ structures.old.items ++ maybe_sizes (shape_of s.now) (option_map (λ x. texpr x.now) step.entry)) }
     ensures next { IfOk result (λ r. r.next ≡ at.next + maybe_temps (option_map (λ x. texpr x.now) step.entry)) }
     ensures local { IfOk result (λ r. r.local ≡ at.local + length (maybe_sizes (shape_of s.now) (option_map (λ x. texpr x.now) step.entry))) }
@@ -217,7 +218,7 @@ pub(crate) fn close_do_while(
     requires temps { at.next + (value_temps (texpr x.now) + 1) ≤ 1000000 }
     requires locals { at.local + length (value_sizes (shape_of s.now) (texpr x.now)) ≤ 1000000 }
     ensures nodes { OnOk result (map node out.new.items ≡ map node out.old.items
-        ++ LoopN (listed ((BlockN (listed (map node inside.items)) ∷ []) ++ low_test (shape_of s.now) (texpr x.now) at.next (at.next + 1) at.local
+        ++ LoopN (listed ((BlockN (listed (map node inside.items)) ∷ []) ++ listing (low_test (shape_of s.now) (texpr x.now) at.next (at.next + 1) at.local)
         ++ (ChooseN at.next (listed (AgainN 0 ∷ [])) (listed []) ∷ []))) ∷ []) }
     ensures sizes { OnOk result (structures.new.items ≡ structures.old.items ++ value_sizes (shape_of s.now) (texpr x.now)) }
     ensures next { IfOk result (λ r. r.next ≡ second (texpr x.now) at.next) }
@@ -257,7 +258,7 @@ pub(crate) fn close_turn(
     ensures nodes { OnOk result (map node out.new.items ≡ map node out.old.items
         ++ LoopN (listed (map node turn.condition.items
         ++ chosen_by turn.tests turn.temporary (turn_of (map node turn.body.items)
-        (low_dropped (shape_of s.now) (option_map (λ x. texpr x.now) step.entry) at.next at.local)))) ∷ []) }
+        (listing (low_dropped (shape_of s.now) (option_map (λ x. texpr x.now) step.entry) at.next at.local))))) ∷ []) }
     ensures sizes { OnOk result (structures.new.items ≡ structures.old.items ++ maybe_sizes (shape_of s.now) (option_map (λ x. texpr x.now) step.entry)) }
     ensures next { IfOk result (λ r. r.next ≡ at.next + maybe_temps (option_map (λ x. texpr x.now) step.entry)) }
     ensures local { IfOk result (λ r. r.local ≡ at.local + length (maybe_sizes (shape_of s.now) (option_map (λ x. texpr x.now) step.entry))) }
@@ -324,7 +325,7 @@ fn match_label(
 /// The word in t is held against the labels of the arms; t takes how many labels come before the one that is chosen.
 fn match_arms(alloc: Global, t: u32, arms: &[TArm]) -> Result<Vec<Node<u32>>, Memory>
     requires { length arms.now ≤ 1000000 }
-    ensures { IfOk result (λ r. map node r.items ≡ low_match t 0 (labels_before_default (tarms (map tarm arms.now))) (tarms (map tarm arms.now))) }
+    ensures { IfOk result (λ r. map node r.items ≡ listing (low_match t 0 (labels_before_default (tarms (map tarm arms.now))) (tarms (map tarm arms.now)))) }
 {
     let before = labels_before_default(arms);
     let mut out = Vec::new(alloc);
@@ -352,7 +353,8 @@ pub(crate) fn put_tests(
 ) -> Result<(), Memory>
     requires { length arms.now ≤ 1000000 }
     ensures { OnOk result (map node out.new.items ≡ map node out.old.items
-        ++ (BlockN (listed (low_match t 0 (labels_before_default (tarms (map tarm arms.now))) (tarms (map tarm arms.now)))) ∷ DoN (Op.Const one 1) ∷ [])) }
+        ++ (BlockN (listed (listing (low_match t 0 (labels_before_default (tarms (map tarm arms.now))) (tarms (map tarm arms.now)))))
+        ∷ DoN (Op.Const one 1) ∷ [])) }
 {
     let tests = match_arms(alloc, t, arms)?;
     put_block(out, tests)?;
@@ -379,7 +381,7 @@ pub(crate) fn close_label(
 
 /// Returns the value in t.
 fn give_back(s: &Reading<'_>, out: &mut Vec<Node<u32>>, ty: &CType, t: u32) -> Result<(), Memory>
-    ensures { OnOk result (map node out.new.items ≡ map node out.old.items ++ returned (shape_of s.now) (ctype ty.now) t) }
+    ensures { OnOk result (map node out.new.items ≡ map node out.old.items ++ listing (returned (shape_of s.now) (ctype ty.now) t)) }
 {
     if is_structure(ty) {
         put(out, Op::Move(FROM, t))?;
@@ -404,8 +406,8 @@ pub(crate) fn return_value(
     requires temps { at.next + (value_temps (texpr x.now) + 1) ≤ 1000000 }
     requires locals { at.local + length (value_sizes (shape_of s.now) (texpr x.now)) ≤ 1000000 }
     ensures nodes { OnOk result (map node out.new.items ≡ map node out.old.items
-        ++ (low_value (shape_of s.now) (texpr x.now) at.next (at.next + 1) at.local
-        ++ converted (ctype gives.now) (is_flag (texpr x.now)) at.next ++ returned (shape_of s.now) (ctype gives.now) at.next)) }
+        ++ (listing (low_value (shape_of s.now) (texpr x.now) at.next (at.next + 1) at.local)
+        ++ listing (converted (ctype gives.now) (is_flag (texpr x.now)) at.next) ++ listing (returned (shape_of s.now) (ctype gives.now) at.next))) }
     ensures sizes { OnOk result (structures.new.items ≡ structures.old.items ++ value_sizes (shape_of s.now) (texpr x.now)) }
     ensures next { IfOk result (λ r. r.next ≡ second (texpr x.now) at.next) }
     ensures local { IfOk result (λ r. r.local ≡ beyond (shape_of s.now) (texpr x.now) at.local) }

@@ -4,9 +4,10 @@ ghost use Rattle.std.specs.Borrow.{Bor};
 ghost use Rattle.c_types.specs.View.{ctype};
 ghost use Rattle.c_types.specs.Kinds.{decayed, pointed};
 ghost use Rattle.mid_code.specs.Functions.{node};
-ghost use Rattle.lower_trees.specs.ListedParts.{two, compared, as_flag, converted, with_word, stepped, stepped_back, distant, with_pointer, operated};
-ghost use Rattle.lower_trees.specs.ListedParts.{one_more, one_less, tested_as, negated_as};
-ghost use Rattle.lower_trees.specs.ListedExpressions.{step_made};
+ghost use Rattle.lower_trees.specs.Pieces.{listing};
+ghost use Rattle.lower_trees.specs.Parts.{two, compared, as_flag, converted, with_word, stepped, stepped_back, distant, with_pointer, operated};
+ghost use Rattle.lower_trees.specs.Parts.{one_more, one_less, tested_as, negated_as};
+ghost use Rattle.lower_trees.specs.Expressions.{step_made};
 ghost use Rattle.lower_trees.specs.View.{shape_of};
 
 use crate::cells::{OTHER, put};
@@ -20,7 +21,7 @@ use v32_isa::{One, Two};
 
 /// Makes a word 0 or 1, where it is not known to be.
 pub(crate) fn put_flag(out: &mut Vec<Node<u32>>, known: bool, t: u32) -> Result<(), Memory>
-    ensures { OnOk result (map node out.new.items ≡ map node out.old.items ++ as_flag known t) }
+    ensures { OnOk result (map node out.new.items ≡ map node out.old.items ++ listing (as_flag known t)) }
 {
     if known {
         Ok(())
@@ -36,7 +37,7 @@ pub(crate) fn convert(
     known: bool,
     t: u32,
 ) -> Result<(), Memory>
-    ensures { OnOk result (map node out.new.items ≡ map node out.old.items ++ converted (ctype ty.now) known t) }
+    ensures { OnOk result (map node out.new.items ≡ map node out.old.items ++ listing (converted (ctype ty.now) known t)) }
 {
     match ty {
         CType::Bool => put_flag(out, known, t),
@@ -51,20 +52,20 @@ pub(crate) fn convert(
 }
 
 fn put_two(out: &mut Vec<Node<u32>>, op: Two, t: u32, a: u32, b: u32) -> Result<(), Memory>
-    ensures { OnOk result (map node out.new.items ≡ map node out.old.items ++ two op t a b) }
+    ensures { OnOk result (map node out.new.items ≡ map node out.old.items ++ listing (two op t a b)) }
 {
     put(out, Op::Two(op, t, a, b))
 }
 
 fn compare(out: &mut Vec<Node<u32>>, op: Two, t: u32, a: u32, b: u32) -> Result<(), Memory>
-    ensures { OnOk result (map node out.new.items ≡ map node out.old.items ++ compared op t a b) }
+    ensures { OnOk result (map node out.new.items ≡ map node out.old.items ++ listing (compared op t a b)) }
 {
     put(out, Op::PtrTest(op, t, a, b))
 }
 
 /// An operator on words.
 fn with_word(out: &mut Vec<Node<u32>>, op: BinOp, t: u32, a: u32, b: u32) -> Result<(), Memory>
-    ensures { OnOk result (map node out.new.items ≡ map node out.old.items ++ with_word op t a b) }
+    ensures { OnOk result (map node out.new.items ≡ map node out.old.items ++ listing (with_word op t a b)) }
 {
     match op {
         BinOp::Mul => put_two(out, Two::IMUL, t, a, b),
@@ -93,7 +94,7 @@ fn with_word(out: &mut Vec<Node<u32>>, op: BinOp, t: u32, a: u32, b: u32) -> Res
 
 /// Moves a pointer on by a number of elements.
 pub(crate) fn step_by(out: &mut Vec<Node<u32>>, size: u32, k: Operands) -> Result<(), Memory>
-    ensures { OnOk result (map node out.new.items ≡ map node out.old.items ++ stepped size k.target k.first k.second k.scale) }
+    ensures { OnOk result (map node out.new.items ≡ map node out.old.items ++ listing (stepped size k.target k.first k.second k.scale)) }
 {
     if size == 1 {
         put(out, Op::Step(k.target, k.first, k.second))
@@ -105,7 +106,7 @@ pub(crate) fn step_by(out: &mut Vec<Node<u32>>, size: u32, k: Operands) -> Resul
 }
 
 fn step_back(out: &mut Vec<Node<u32>>, size: u32, k: Operands) -> Result<(), Memory>
-    ensures { OnOk result (map node out.new.items ≡ map node out.old.items ++ stepped_back size k.target k.first k.second k.scale) }
+    ensures { OnOk result (map node out.new.items ≡ map node out.old.items ++ listing (stepped_back size k.target k.first k.second k.scale)) }
 {
     put(out, Op::One(One::ISGN, k.second, k.second))?;
     step_by(out, size, k)
@@ -113,7 +114,7 @@ fn step_back(out: &mut Vec<Node<u32>>, size: u32, k: Operands) -> Result<(), Mem
 
 /// How many elements lie between two pointers.
 fn distance(out: &mut Vec<Node<u32>>, size: u32, k: Operands) -> Result<(), Memory>
-    ensures { OnOk result (map node out.new.items ≡ map node out.old.items ++ distant size k.target k.first k.second k.scale) }
+    ensures { OnOk result (map node out.new.items ≡ map node out.old.items ++ listing (distant size k.target k.first k.second k.scale)) }
 {
     put(out, Op::Apart(k.target, k.first, k.second))?;
     put(out, Op::Const(k.scale, size))?;
@@ -122,7 +123,7 @@ fn distance(out: &mut Vec<Node<u32>>, size: u32, k: Operands) -> Result<(), Memo
 
 fn subtract(out: &mut Vec<Node<u32>>, size: u32, pointers: bool, k: Operands) -> Result<(), Memory>
     ensures { OnOk result (map node out.new.items ≡ map node out.old.items
-        ++ with_pointer BinOp.Sub size pointers k.target k.first k.second k.scale) }
+        ++ listing (with_pointer BinOp.Sub size pointers k.target k.first k.second k.scale)) }
 {
     if pointers {
         distance(out, size, k)
@@ -139,7 +140,7 @@ fn with_pointer(
     pointers: bool,
     k: Operands,
 ) -> Result<(), Memory>
-    ensures { OnOk result (map node out.new.items ≡ map node out.old.items ++ with_pointer op size pointers k.target k.first k.second k.scale) }
+    ensures { OnOk result (map node out.new.items ≡ map node out.old.items ++ listing (with_pointer op size pointers k.target k.first k.second k.scale)) }
 {
     match op {
         BinOp::Add => step_by(out, size, k),
@@ -173,7 +174,7 @@ pub(crate) fn operate(
     k: Operands,
 ) -> Result<(), Memory>
     ensures { OnOk result (map node out.new.items ≡ map node out.old.items
-        ++ operated (shape_of s.now) op (ctype first.now) (ctype second.now) k.target k.first k.second k.scale) }
+        ++ listing (operated (shape_of s.now) op (ctype first.now) (ctype second.now) k.target k.first k.second k.scale)) }
 {
     match led_to(first) {
         None => with_word(out, op, k.target, k.first, k.second),
@@ -189,7 +190,8 @@ fn count_up(
     a: u32,
     by: u32,
 ) -> Result<(), Memory>
-    ensures { OnOk result (map node out.new.items ≡ map node out.old.items ++ one_more (shape_of s.now) (option_map (λ x. ctype x.now) to.entry) t a by) }
+    ensures { OnOk result (map node out.new.items ≡ map node out.old.items
+        ++ listing (one_more (shape_of s.now) (option_map (λ x. ctype x.now) to.entry) t a by)) }
 {
     match to {
         None => {
@@ -211,7 +213,8 @@ fn count_down(
     a: u32,
     by: u32,
 ) -> Result<(), Memory>
-    ensures { OnOk result (map node out.new.items ≡ map node out.old.items ++ one_less (shape_of s.now) (option_map (λ x. ctype x.now) to.entry) t a by) }
+    ensures { OnOk result (map node out.new.items ≡ map node out.old.items
+        ++ listing (one_less (shape_of s.now) (option_map (λ x. ctype x.now) to.entry) t a by)) }
 {
     match to {
         None => {
@@ -236,7 +239,7 @@ pub(crate) fn step_one(
     old: u32,
     by: u32,
 ) -> Result<(), Memory>
-    ensures { OnOk result (map node out.new.items ≡ map node out.old.items ++ step_made (shape_of s.now) up (ctype ty.now) new old by) }
+    ensures { OnOk result (map node out.new.items ≡ map node out.old.items ++ listing (step_made (shape_of s.now) up (ctype ty.now) new old by)) }
 {
     if up {
         count_up(s, out, led_to(ty), new, old, by)
@@ -247,7 +250,7 @@ pub(crate) fn step_one(
 
 /// Makes a word of the condition in t.
 pub(crate) fn test_as(out: &mut Vec<Node<u32>>, ty: &CType, t: u32) -> Result<(), Memory>
-    ensures { OnOk result (map node out.new.items ≡ map node out.old.items ++ tested_as (decayed (ctype ty.now)) t) }
+    ensures { OnOk result (map node out.new.items ≡ map node out.old.items ++ listing (tested_as (decayed (ctype ty.now)) t)) }
 {
     if has_pointer_value(ty) {
         put(out, Op::Null(OTHER))?;
@@ -259,7 +262,7 @@ pub(crate) fn test_as(out: &mut Vec<Node<u32>>, ty: &CType, t: u32) -> Result<()
 
 /// Turns the condition in t around.
 pub(crate) fn negate_as(out: &mut Vec<Node<u32>>, ty: &CType, t: u32) -> Result<(), Memory>
-    ensures { OnOk result (map node out.new.items ≡ map node out.old.items ++ negated_as (decayed (ctype ty.now)) t) }
+    ensures { OnOk result (map node out.new.items ≡ map node out.old.items ++ listing (negated_as (decayed (ctype ty.now)) t)) }
 {
     if has_pointer_value(ty) {
         put(out, Op::Null(OTHER))?;

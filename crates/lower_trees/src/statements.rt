@@ -5,8 +5,8 @@ ghost use Rattle.c_types.specs.View.{ctype, texpr, tstmt, tstmts, tarm, tarms};
 ghost use Rattle.c_types.specs.Nodes.{statement_nodes, maybe_statement_nodes, statements_nodes, arms_nodes};
 ghost use Rattle.mid_code.specs.Functions.{node};
 ghost use Rattle.lower_trees.specs.Counts.{stmt_temps, stmts_temps, other_temps, arms_temps, stmt_sizes, stmts_sizes, other_sizes, arms_sizes};
-ghost use Rattle.lower_trees.specs.ListedStatements.{depth, low_stmt, low_other, low_stmts, low_arms};
-ghost use Rattle.lower_trees.specs.Statements.{ToEnd};
+ghost use Rattle.lower_trees.specs.Pieces.{listing};
+ghost use Rattle.lower_trees.specs.Statements.{depth, low_stmt, low_other, low_stmts, low_arms, ToEnd};
 ghost use Rattle.lower_trees.specs.inner.MaybeStatements.{other_of};
 ghost use Rattle.lower_trees.specs.inner.StatementParts.{choice_of, for_of, switch_of};
 ghost use Rattle.lower_trees.specs.View.{shape_of, jump_of};
@@ -66,8 +66,8 @@ fn statement<'x>(
     requires few { statement_nodes (tstmt a.now) ≤ 1000000 }
     requires jump { depth (jump_of exits.continues) ≤ at.next }
     ensures nodes { OnOk result (map node out.new.items ≡ map node out.old.items
-        ++ low_stmt (shape_of s.now) (ctype exits.entry.gives.now) (tstmt a.now)
-        at.next at.local exits.entry.breaks (jump_of exits.entry.continues)) }
+        ++ listing (low_stmt (shape_of s.now) (ctype exits.entry.gives.now) (tstmt a.now)
+        at.next at.local exits.entry.breaks (jump_of exits.entry.continues))) }
     ensures sizes { OnOk result (structures.new.items ≡ structures.old.items ++ stmt_sizes (shape_of s.now) (tstmt a.now)) }
     ensures next { IfOk result (λ r. r.next ≡ at.next + stmt_temps (tstmt a.now)) }
     ensures local { IfOk result (λ r. r.local ≡ at.local + length (stmt_sizes (shape_of s.now) (tstmt a.now))) }
@@ -125,8 +125,8 @@ fn nested<'x>(
     requires locals { at.local + length (stmt_sizes (shape_of s.now) (tstmt a.now)) ≤ 1000000 }
     requires few { statement_nodes (tstmt a.now) ≤ 1000000 }
     requires jump { depth (jump_of exits.continues) ≤ at.next }
-    ensures nodes { IfOk result (λ r. map node r.0.items ≡ low_stmt (shape_of s.now) (ctype exits.entry.gives.now) (tstmt a.now)
-        at.next at.local exits.entry.breaks (jump_of exits.entry.continues)) }
+    ensures nodes { IfOk result (λ r. map node r.0.items ≡ listing (low_stmt (shape_of s.now) (ctype exits.entry.gives.now) (tstmt a.now)
+        at.next at.local exits.entry.breaks (jump_of exits.entry.continues))) }
     ensures sizes { OnOk result (structures.new.items ≡ structures.old.items ++ stmt_sizes (shape_of s.now) (tstmt a.now)) }
     ensures next { IfOk result (λ r. r.1.next ≡ at.next + stmt_temps (tstmt a.now)) }
     ensures local { IfOk result (λ r. r.1.local ≡ at.local + length (stmt_sizes (shape_of s.now) (tstmt a.now))) }
@@ -152,8 +152,8 @@ fn other<'x>(
     requires few { maybe_statement_nodes (other_of a) ≤ 1000000 }
     requires jump { depth (jump_of exits.continues) ≤ at.next }
     ensures nodes { OnOk result (map node out.new.items ≡ map node out.old.items
-        ++ low_other (shape_of s.now) (ctype exits.entry.gives.now) (other_of a.entry)
-        at.next at.local exits.entry.breaks (jump_of exits.entry.continues)) }
+        ++ listing (low_other (shape_of s.now) (ctype exits.entry.gives.now) (other_of a.entry)
+        at.next at.local exits.entry.breaks (jump_of exits.entry.continues))) }
     ensures sizes { OnOk result (structures.new.items ≡ structures.old.items ++ other_sizes (shape_of s.now) (other_of a.entry)) }
     ensures next { IfOk result (λ r. r.next ≡ at.next + other_temps (other_of a.entry)) }
     ensures local { IfOk result (λ r. r.local ≡ at.local + length (other_sizes (shape_of s.now) (other_of a.entry))) }
@@ -181,8 +181,8 @@ fn block<'x>(
     requires few { statement_nodes (BlockZ made.now (tstmts (map tstmt body.now))) ≤ 1000000 }
     requires jump { depth (jump_of exits.continues) ≤ at.next }
     ensures nodes { OnOk result (map node out.new.items ≡ map node out.old.items
-        ++ low_stmt (shape_of s.now) (ctype exits.entry.gives.now) (BlockZ made.now (tstmts (map tstmt body.now)))
-        at.next at.local exits.entry.breaks (jump_of exits.entry.continues)) }
+        ++ listing (low_stmt (shape_of s.now) (ctype exits.entry.gives.now) (BlockZ made.now (tstmts (map tstmt body.now)))
+        at.next at.local exits.entry.breaks (jump_of exits.entry.continues))) }
     ensures sizes { OnOk result (structures.new.items ≡ structures.old.items ++ stmt_sizes (shape_of s.now) (BlockZ made.now (tstmts (map tstmt body.now)))) }
     ensures next { IfOk result (λ r. r.next ≡ at.next + stmt_temps (BlockZ made.now (tstmts (map tstmt body.now)))) }
     ensures local { IfOk result (λ r. r.local ≡ at.local + length (stmt_sizes (shape_of s.now) (BlockZ made.now (tstmts (map tstmt body.now))))) }
@@ -208,8 +208,8 @@ fn choice<'x>(
     requires few { statement_nodes (choice_of (texpr x.now) branches) ≤ 1000000 }
     requires jump { depth (jump_of exits.continues) ≤ at.next }
     ensures nodes { OnOk result (map node out.new.items ≡ map node out.old.items
-        ++ low_stmt (shape_of s.now) (ctype exits.entry.gives.now) (choice_of (texpr x.now) branches.entry)
-        at.next at.local exits.entry.breaks (jump_of exits.entry.continues)) }
+        ++ listing (low_stmt (shape_of s.now) (ctype exits.entry.gives.now) (choice_of (texpr x.now) branches.entry)
+        at.next at.local exits.entry.breaks (jump_of exits.entry.continues))) }
     ensures sizes { OnOk result (structures.new.items ≡ structures.old.items ++ stmt_sizes (shape_of s.now) (choice_of (texpr x.now) branches.entry)) }
     ensures next { IfOk result (λ r. r.next ≡ at.next + stmt_temps (choice_of (texpr x.now) branches.entry)) }
     ensures local { IfOk result (λ r. r.local ≡ at.local + length (stmt_sizes (shape_of s.now) (choice_of (texpr x.now) branches.entry))) }
@@ -240,7 +240,7 @@ fn while_loop<'x>(
     requires locals { at.local + length (stmt_sizes (shape_of s.now) (WhileZ (texpr x.now) (tstmt body.now))) ≤ 1000000 }
     requires few { statement_nodes (WhileZ (texpr x.now) (tstmt body.now)) ≤ 1000000 }
     ensures nodes { OnOk result (map node out.new.items ≡ map node out.old.items
-        ++ low_stmt (shape_of s.now) (ctype gives.now) (WhileZ (texpr x.now) (tstmt body.now)) at.next at.local 0 (ToEnd 0)) }
+        ++ listing (low_stmt (shape_of s.now) (ctype gives.now) (WhileZ (texpr x.now) (tstmt body.now)) at.next at.local 0 (ToEnd 0))) }
     ensures sizes { OnOk result (structures.new.items ≡ structures.old.items ++ stmt_sizes (shape_of s.now) (WhileZ (texpr x.now) (tstmt body.now))) }
     ensures next { IfOk result (λ r. r.next ≡ at.next + stmt_temps (WhileZ (texpr x.now) (tstmt body.now))) }
     ensures local { IfOk result (λ r. r.local ≡ at.local + length (stmt_sizes (shape_of s.now) (WhileZ (texpr x.now) (tstmt body.now)))) }
@@ -273,7 +273,7 @@ fn do_while_loop<'x>(
     requires locals { at.local + length (stmt_sizes (shape_of s.now) (DoWhileZ (tstmt body.now) (texpr x.now))) ≤ 1000000 }
     requires few { statement_nodes (DoWhileZ (tstmt body.now) (texpr x.now)) ≤ 1000000 }
     ensures nodes { OnOk result (map node out.new.items ≡ map node out.old.items
-        ++ low_stmt (shape_of s.now) (ctype gives.now) (DoWhileZ (tstmt body.now) (texpr x.now)) at.next at.local 0 (ToEnd 0)) }
+        ++ listing (low_stmt (shape_of s.now) (ctype gives.now) (DoWhileZ (tstmt body.now) (texpr x.now)) at.next at.local 0 (ToEnd 0))) }
     ensures sizes { OnOk result (structures.new.items ≡ structures.old.items ++ stmt_sizes (shape_of s.now) (DoWhileZ (tstmt body.now) (texpr x.now))) }
     ensures next { IfOk result (λ r. r.next ≡ at.next + stmt_temps (DoWhileZ (tstmt body.now) (texpr x.now))) }
     ensures local { IfOk result (λ r. r.local ≡ at.local + length (stmt_sizes (shape_of s.now) (DoWhileZ (tstmt body.now) (texpr x.now)))) }
@@ -303,8 +303,8 @@ fn for_loop<'x>(
     requires few { statement_nodes (for_of of) ≤ 1000000 }
     requires jump { depth (jump_of exits.continues) ≤ at.next }
     ensures nodes { OnOk result (map node out.new.items ≡ map node out.old.items
-        ++ low_stmt (shape_of s.now) (ctype exits.entry.gives.now) (for_of of.entry)
-        at.next at.local exits.entry.breaks (jump_of exits.entry.continues)) }
+        ++ listing (low_stmt (shape_of s.now) (ctype exits.entry.gives.now) (for_of of.entry)
+        at.next at.local exits.entry.breaks (jump_of exits.entry.continues))) }
     ensures sizes { OnOk result (structures.new.items ≡ structures.old.items ++ stmt_sizes (shape_of s.now) (for_of of.entry)) }
     ensures next { IfOk result (λ r. r.next ≡ at.next + stmt_temps (for_of of.entry)) }
     ensures local { IfOk result (λ r. r.local ≡ at.local + length (stmt_sizes (shape_of s.now) (for_of of.entry))) }
@@ -345,8 +345,8 @@ fn switch<'x>(
     requires few { statement_nodes (switch_of of) ≤ 1000000 }
     requires jump { depth (jump_of exits.continues) ≤ at.next }
     ensures nodes { OnOk result (map node out.new.items ≡ map node out.old.items
-        ++ low_stmt (shape_of s.now) (ctype exits.entry.gives.now) (switch_of of.entry)
-        at.next at.local exits.entry.breaks (jump_of exits.entry.continues)) }
+        ++ listing (low_stmt (shape_of s.now) (ctype exits.entry.gives.now) (switch_of of.entry)
+        at.next at.local exits.entry.breaks (jump_of exits.entry.continues))) }
     ensures sizes { OnOk result (structures.new.items ≡ structures.old.items ++ stmt_sizes (shape_of s.now) (switch_of of.entry)) }
     ensures next { IfOk result (λ r. r.next ≡ at.next + stmt_temps (switch_of of.entry)) }
     ensures local { IfOk result (λ r. r.local ≡ at.local + length (stmt_sizes (shape_of s.now) (switch_of of.entry))) }
@@ -389,8 +389,8 @@ pub(crate) fn statements<'x>(
     requires few { statements_nodes (tstmts (map tstmt body.now)) ≤ 1000000 }
     requires jump { depth (jump_of exits.continues) ≤ at.next }
     ensures nodes { OnOk result (map node out.new.items ≡ map node out.old.items
-        ++ low_stmts (shape_of s.now) (ctype exits.entry.gives.now) (tstmts (map tstmt body.now))
-        at.next at.local exits.entry.breaks (jump_of exits.entry.continues)) }
+        ++ listing (low_stmts (shape_of s.now) (ctype exits.entry.gives.now) (tstmts (map tstmt body.now))
+        at.next at.local exits.entry.breaks (jump_of exits.entry.continues))) }
     ensures sizes { OnOk result (structures.new.items ≡ structures.old.items ++ stmts_sizes (shape_of s.now) (tstmts (map tstmt body.now))) }
     ensures next { IfOk result (λ r. r.next ≡ at.next + stmts_temps (tstmts (map tstmt body.now))) }
     ensures local { IfOk result (λ r. r.local ≡ at.local + length (stmts_sizes (shape_of s.now) (tstmts (map tstmt body.now)))) }
@@ -419,8 +419,8 @@ fn labelled<'x>(
     requires few { arms_nodes (tarms (map tarm arms.now)) ≤ 1000000 }
     requires jump { depth (jump_of exits.continues) ≤ at.next }
     ensures nodes { OnOk result (map node out.new.items ≡ map node out.old.items
-        ++ low_arms (shape_of s.now) (ctype exits.entry.gives.now) t (tarms (map tarm arms.now))
-        at.next at.local exits.entry.breaks (jump_of exits.entry.continues)) }
+        ++ listing (low_arms (shape_of s.now) (ctype exits.entry.gives.now) t (tarms (map tarm arms.now))
+        at.next at.local exits.entry.breaks (jump_of exits.entry.continues))) }
     ensures sizes { OnOk result (structures.new.items ≡ structures.old.items ++ arms_sizes (shape_of s.now) (tarms (map tarm arms.now))) }
     ensures next { IfOk result (λ r. r.next ≡ at.next + arms_temps (tarms (map tarm arms.now))) }
     ensures local { IfOk result (λ r. r.local ≡ at.local + length (arms_sizes (shape_of s.now) (tarms (map tarm arms.now)))) }

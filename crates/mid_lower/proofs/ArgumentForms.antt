@@ -23,6 +23,7 @@ use Rattle.lower_trees.specs.Flags.{is_flag}
 use Rattle.lower_trees.specs.Parts as part
 use Rattle.lower_trees.specs.Counts.{one_size, value_sizes, sizes_all}
 use Rattle.lower_trees.specs.Expressions as low
+use Rattle.lower_trees.specs.Pieces.{coded}
 use Rattle.lower_trees.specs.Expressions.{value, second, beyond, spots, low_args}
 use Rattle.mid_lower.proofs.Grows.{Mid, Grows}
 use Rattle.mid_lower.proofs.Fits.{Site}
@@ -82,7 +83,7 @@ module _ (S : Site) where
     next d v = asked Short (span_of e) v (converted ty d) (λ z. in_front z (later v))
 
     abbrev code : NodesT ℕ
-    code = value h e (low.low h e) n (n + 1) m (part.converted ty (is_flag e) n c)
+    code = coded (value h e (low.low h e) n (n + 1) m) (coded (part.converted ty (is_flag e) n) c)
 
     abbrev Followed : Type 0
     Followed = T (then_values (src.with_value Short S.s S.bound e (evaluated S.s S.bound S.prev e w) next) go) (R code (mk w x))
@@ -95,7 +96,7 @@ module _ (S : Site) where
 
     scalar : Follow S e → IsScalar e → AfterArgument false → Followed
     scalar sim ns f =
-        uses S γ1 σ s n (n + 1) m w x (part.converted ty (is_flag e) n c) start (above_free γ1 n le) (omega (arith, le)) sn (omega arith) e ns free_room next sim
+        uses S γ1 σ s n (n + 1) m w x (coded (part.converted ty (is_flag e) n) c) start (above_free γ1 n le) (omega (arith, le)) sn (omega arith) e ns free_room next sim
         (λ d wa xa flag ha ea below. converts S γ1 σ (span_of e) wa (s + 20) xa ty (is_flag e) n d c (spare γ1 (s + 28) (s + 20 + 8) wa xa (omega arith) ha) (above_free γ1 n le) ea flag (λ z. in_front z (later wa))
         (λ z xb hb eb rest. subst (λ r. T r (R c (mk wa xb))) (sym (front_is z (later wa) go))
         (f z wa xb (still z wa xb hb) eb (λ j a lt. rest j (eqb_less j n lt) ∙ below j a (omega (arith, lt)) (eqb_less j n lt)))))
@@ -105,8 +106,8 @@ module _ (S : Site) where
 
     structure : FollowValue S e → is_structure ty ≡ true → AfterArgument true → Followed
     structure sim is f =
-        value_then γ1 σ s n (n + 1) hi w x (R (part.converted ty (is_flag e) n c)) start (above_free γ1 n le) (omega (arith, le)) (R_grows (part.converted ty (is_flag e) n c)) (span_of e) (value_of S.s S.bound e (evaluated S.s S.bound S.prev e w)) (R code (mk w x))
-        (sim n (n + 1) m (part.converted ty (is_flag e) n c) w x sn (omega arith) h0.fit free_room) next
+        value_then γ1 σ s n (n + 1) hi w x (R (coded (part.converted ty (is_flag e) n) c)) start (above_free γ1 n le) (omega (arith, le)) (R_grows (coded (part.converted ty (is_flag e) n) c)) (span_of e) (value_of S.s S.bound e (evaluated S.s S.bound S.prev e w)) (R code (mk w x))
+        (sim n (n + 1) m (coded (part.converted ty (is_flag e) n) c) w x sn (omega arith) h0.fit free_room) next
         (λ o j wa xa k at before. subst (λ d. T (then_values (next (Ptr o j) wa) go) (R d (mk wa xa))) (sym (same_code S ty (is_flag e) n c is))
         (subst (λ q. T (then_values (asked Short (span_of e) wa q (λ z. in_front z (later wa))) go) (R c (mk wa xa))) (sym (kept_structure S ty (Ptr o j) is))
         (subst (λ r. T r (R c (mk wa xa))) (sym (front_is (Ptr o j) (later wa) go))
@@ -126,7 +127,7 @@ module _ (S : Site) where
   FollowAll xs tys =
       (γ : Goal) (b : Bool) (k : NodesT ℕ) (hi s n m : ℕ) (ts : List ℕ) (c : NodesT ℕ) (w : World) (x : Side) → TakenAll γ s m ts w x → γ.first ≤ n → scratch ≤ n → Room S γ.base m (sizes_all h xs) → (go : List Cell → World → Val)
       → ((vs : List Cell) (wa : World) (xa : Side) → TakenAll γ (s + 20 * length vs) (m + length (sizes_all h xs)) (ts ++ passed tys vs) wa xa → Holds (spots xs n) vs xa.temps → ((j : ℕ) → scratch ≤ j → j < n → xa.temps j ≡ x.temps j) → Comes b γ (R k) hi (go vs wa) (R c (mk wa xa)))
-      → Comes b γ (R k) hi (then_values (evaluated_all S.s S.bound S.prev tys xs w) go) (R (low_args h tys xs n m c) (mk w x))
+      → Comes b γ (R k) hi (then_values (evaluated_all S.s S.bound S.prev tys xs w) go) (R (coded (low_args h tys xs n m) c) (mk w x))
 
   pub no_arguments : (tys : List Ty) → FollowAll NoX tys
   no_arguments tys γ b k hi s n m ts c w x h0 le sn room go f = f [] w x (subst (λ us. TakenAll γ (s + 20 * 0) (m + 0) us w x) (sym (append-nil ts)) (taken_less γ s (s + 20 * 0) m (m + 0) ts w x (omega arith) (omega arith) h0)) tt (λ j a b. refl)
@@ -136,7 +137,7 @@ module _ (S : Site) where
       let n2 : ℕ = second e n in
       let m2 : ℕ = beyond h e m in
       let long = join_length (value_sizes h e) (sizes_all h xs) in
-      argument_sim γ (Comes b γ (R k) hi) (comes_stops b γ (R k) hi) e ty s n m ts w x (low_args h tys xs n2 m2 c) h0 le sn (room_first S γ.base m (value_sizes h e) (sizes_all h xs) room) (evaluated_all S.s S.bound S.prev tys xs) go plain taken
+      argument_sim γ (Comes b γ (R k) hi) (comes_stops b γ (R k) hi) e ty s n m ts w x (coded (low_args h tys xs n2 m2) c) h0 le sn (room_first S γ.base m (value_sizes h e) (sizes_all h xs) room) (evaluated_all S.s S.bound S.prev tys xs) go plain taken
       (λ z wb xb hb eb keep. rest γ b k hi (s + 20) n2 m2 (ts ++ with_object (is_structure ty) z []) c wb xb hb (omega (arith, le)) (omega (arith, sn)) (room_second S γ.base m (value_sizes h e) (sizes_all h xs) room) (λ vs v. go (z ∷ vs) v)
       (λ vs wc xc hc holds below. f (z ∷ vs) wc xc
       (subst (λ us. TakenAll γ (s + 20 * suc (length vs)) (m + length (value_sizes h e ++ sizes_all h xs)) us wc xc) (passed_front ts (is_structure ty) z (passed tys vs))
@@ -153,7 +154,7 @@ module _ (S : Site) where
   module _ (bodies : BodiesFollow S) (f : ℕ) (xs : TExprTs) (args : FollowAll xs (params_of h f)) (ty : Ty) (span : Span) where
     -- the code of a call, whose own local is the k-th
     abbrev called : (k t n : ℕ) → NodesT ℕ → NodesT ℕ
-    called k t n c = low.called (result_of h f) f k t (spots xs n) c
+    called k t n c = coded (low.called (result_of h f) f k t (spots xs n)) c
 
     abbrev call : List Cell → World → Val
     call vs v = src.call S.s S.bound S.prev f vs span v
@@ -163,7 +164,7 @@ module _ (S : Site) where
         let γ = goal false t n w x in
         let k : ℕ = m + length (sizes_all h xs) in
         let free = room.free in
-        subst (λ tys. SimV γ (R c) false (then_values (evaluated_all S.s S.bound S.prev tys xs (tick w)) call) (R (low_args h (params_of h f) xs n m (called k t n c)) (mk w x))) (sym (params_are (slice_get S.s.functions f)))
+        subst (λ tys. SimV γ (R c) false (then_values (evaluated_all S.s S.bound S.prev tys xs (tick w)) call) (R (coded (low_args h (params_of h f) xs n m) (called k t n c)) (mk w x))) (sym (params_are (slice_get S.s.functions f)))
         (args γ false c 0 36 n m [] (called k t n c) (tick w) x (none_taken γ 36 m (tick w) x free (begin_value S t n w x u)) (omega arith) (omega (arith, st, tn)) (room_first S γ.base m (sizes_all h xs) (one_size h (result_of h f)) room) call
         (λ vs wa xa ha holds below. called_value S bodies t n k k w x c f span (spots xs n) vs wa xa is ha holds))
 
@@ -177,7 +178,7 @@ module _ (S : Site) where
         let long = join_length (sizes_all h xs) (one_size h (result_of h f)) in
         let place_room = subst (λ zs. Room S γ.base k zs) one (room_second S γ.base m (sizes_all h xs) (one_size h (result_of h f)) room) in
         let hi_is : k + 1 ≡ m + length (sizes_all h xs ++ one_size h (result_of h f)) = omega (arith, long, length_one) in
-        subst (λ hi. SimS γ (R c) hi (evaluated S.s S.bound S.prev (Typed (CallK f xs) ty span) w) (R (low_args h (params_of h f) xs n m (called k t n c)) (mk w x))) hi_is
-        (subst (λ tys. SimS γ (R c) (k + 1) (then_values (evaluated_all S.s S.bound S.prev tys xs (tick w)) call) (R (low_args h (params_of h f) xs n m (called k t n c)) (mk w x))) (sym (params_are (slice_get S.s.functions f)))
+        subst (λ hi. SimS γ (R c) hi (evaluated S.s S.bound S.prev (Typed (CallK f xs) ty span) w) (R (coded (low_args h (params_of h f) xs n m) (called k t n c)) (mk w x))) hi_is
+        (subst (λ tys. SimS γ (R c) (k + 1) (then_values (evaluated_all S.s S.bound S.prev tys xs (tick w)) call) (R (coded (low_args h (params_of h f) xs n m) (called k t n c)) (mk w x))) (sym (params_are (slice_get S.s.functions f)))
         (args γ true c (k + 1) 44 n m [] (called k t n c) (tick w) x (none_taken γ 44 m (tick w) x free (begin_structure S t n w x u)) (omega arith) (omega (arith, st, tn)) (room_first S γ.base m (sizes_all h xs) (one_size h (result_of h f)) room) call
         (λ vs wa xa ha holds below. called_structure S bodies t n k w x c f span xs vs wa xa tn is place_room ha holds)))

@@ -22,6 +22,7 @@ use Rattle.mid_code.specs.Meaning.{Res, did, then_next, ask, call_weight}
 use Rattle.mid_code.specs.States.{temporaries, sizes_of, function_at, to, spent}
 use Rattle.lower_trees.specs.Shape.{Shape, shape_in, params_of, result_of}
 use Rattle.lower_trees.specs.Expressions as low
+use Rattle.lower_trees.specs.Pieces.{coded}
 use Rattle.lower_trees.specs.Expressions.{spots}
 use Rattle.mid_lower.proofs.Grows.{Mid, Grows}
 use Rattle.mid_lower.proofs.Fits.{Site}
@@ -87,18 +88,18 @@ module _ (S : Site) where
         (subst (λ b. Holds bs (if b then Unwritten ∷ vs else vs) x.temps) (sym scalar) holds) e
 
   pub called_value : BodiesFollow S → (t n m hi : ℕ) (w0 : World) (y0 : Side) (c : NodesT ℕ) (f : ℕ) (span : Span) (bs : List ℕ) (vs : List Cell) (w : World) (x : Side) → is_structure (result_of h f) ≡ false → TakenAll (goal false t n w0 y0) (36 + 20 * length vs) hi (passed (params_of h f) vs) w x → Holds bs vs x.temps
-      → SimV (goal false t n w0 y0) (R c) false (src.call S.s S.bound S.prev f vs span w) (R (low.called (result_of h f) f m t bs c) (mk w x))
+      → SimV (goal false t n w0 y0) (R c) false (src.call S.s S.bound S.prev f vs span w) (R (coded (low.called (result_of h f) f m t bs) c) (mk w x))
   called_value bodies t n m hi w0 y0 c f span bs vs w x = by (slice_get S.s.functions f) refl
     where
       γ : Goal
       γ = goal false t n w0 y0
 
       by : (o : Option TFunctionT) → slice_get S.s.functions f ≡ o → is_structure (option_map_or (λ g. g.gives) o VoidY) ≡ false → TakenAll (goal false t n w0 y0) (36 + 20 * length vs) hi (passed (option_map_or (λ g. g.params) o []) vs) w x → Holds bs vs x.temps
-          → SimV (goal false t n w0 y0) (R c) false (src.call_of S.s S.bound S.prev f o vs span w) (R (low.called (option_map_or (λ g. g.gives) o VoidY) f m t bs c) (mk w x))
-      by None e scalar h0 holds = R_grows (low.called VoidY f m t bs c) (mk w x)
+          → SimV (goal false t n w0 y0) (R c) false (src.call_of S.s S.bound S.prev f o vs span w) (R (coded (low.called (option_map_or (λ g. g.gives) o VoidY) f m t bs) c) (mk w x))
+      by None e scalar h0 holds = R_grows (coded (low.called VoidY f m t bs) c) (mk w x)
       by (Some g) e scalar h0 holds =
           let long = holds_length bs vs x.temps holds in
-          subst (λ b. SimV (goal false t n w0 y0) (R c) false (src.enter S.s S.bound S.prev f g vs (if b then next_object w.store else Unwritten) span (on_store (λ u. if b then with_temporary (words S.s g.gives) u else u) w)) (R (if b then Do (FreshO m) (Do (LocalO t m) (Call the_none f (t ∷ bs) c)) else Call (target_of (is_void g.gives) t) f bs c) (mk w x))) (sym scalar)
+          subst (λ b. SimV (goal false t n w0 y0) (R c) false (src.enter S.s S.bound S.prev f g vs (if b then next_object w.store else Unwritten) span (on_store (λ u. if b then with_temporary (words S.s g.gives) u else u) w)) (R (if b then Do (FreshO m) (Do (LocalO t m) (Call the_none f ((if b then t ∷ [] else []) ++ bs) c)) else Call (target_of (is_void g.gives) t) f ((if b then t ∷ [] else []) ++ bs) c) (mk w x))) (sym scalar)
           (value_asks t n w0 y0 c f g scalar span bs vs hi (36 + 20 * length vs) w x (call_weight bs) (omega (arith, long)) h0 bodies holds e S.bound)
 
   -- ---- a structure
@@ -147,14 +148,14 @@ module _ (S : Site) where
 
   -- the place of the result is made, and handed in front of the arguments
   pub called_structure : BodiesFollow S → (t n m : ℕ) (w0 : World) (y0 : Side) (c : NodesT ℕ) (f : ℕ) (span : Span) (xs : TExprTs) (vs : List Cell) (w : World) (x : Side) → t < n → is_structure (result_of h f) ≡ true → Room S (base_of w0 y0) m (words S.s (result_of h f) ∷ []) → TakenAll (structure_goal t n w0 y0) (44 + 20 * length vs) m (passed (params_of h f) vs) w x → Holds (spots xs n) vs x.temps
-      → SimS (structure_goal t n w0 y0) (R c) (m + 1) (src.call S.s S.bound S.prev f vs span w) (R (low.called (result_of h f) f m t (spots xs n) c) (mk w x))
+      → SimS (structure_goal t n w0 y0) (R c) (m + 1) (src.call S.s S.bound S.prev f vs span w) (R (coded (low.called (result_of h f) f m t (spots xs n)) c) (mk w x))
   called_structure bodies t n m w0 y0 c f span xs vs w x tn = by (slice_get S.s.functions f) refl
     where
       γ : Goal
       γ = structure_goal t n w0 y0
 
       by : (o : Option TFunctionT) → slice_get S.s.functions f ≡ o → is_structure (option_map_or (λ g. g.gives) o VoidY) ≡ true → Room S (base_of w0 y0) m (words S.s (option_map_or (λ g. g.gives) o VoidY) ∷ []) → TakenAll (structure_goal t n w0 y0) (44 + 20 * length vs) m (passed (option_map_or (λ g. g.params) o []) vs) w x → Holds (spots xs n) vs x.temps
-          → SimS (structure_goal t n w0 y0) (R c) (m + 1) (src.call_of S.s S.bound S.prev f o vs span w) (R (low.called (option_map_or (λ g. g.gives) o VoidY) f m t (spots xs n) c) (mk w x))
+          → SimS (structure_goal t n w0 y0) (R c) (m + 1) (src.call_of S.s S.bound S.prev f o vs span w) (R (coded (low.called (option_map_or (λ g. g.gives) o VoidY) f m t (spots xs n)) c) (mk w x))
       by None e structure room h0 holds = absurd (false≢true structure)
       by (Some g) e structure room h0 holds =
           let g0 = structure_goal t n w0 y0 in
@@ -179,7 +180,7 @@ module _ (S : Site) where
           let start = taken_here g0 (44 + 20 * length vs) m ts w x h0 in
           let r : Val = src.enter S.s S.bound S.prev f g vs (next_object w.store) span w1 in
           let γ1 : Goal = anew g0 w1 x1 in
-          subst (λ b. SimS g0 (R c) (m + 1) (src.enter S.s S.bound S.prev f g vs (if b then next_object w.store else Unwritten) span (on_store (λ u. if b then with_temporary (words S.s g.gives) u else u) w)) (R (if b then Do (FreshO m) (Do (LocalO t m) call) else Call (target_of (is_void g.gives) t) f bs c) (mk w x))) (sym structure)
+          subst (λ b. SimS g0 (R c) (m + 1) (src.enter S.s S.bound S.prev f g vs (if b then next_object w.store else Unwritten) span (on_store (λ u. if b then with_temporary (words S.s g.gives) u else u) w)) (R (if b then Do (FreshO m) (Do (LocalO t m) (Call the_none f ((if b then t ∷ [] else []) ++ bs) c)) else Call (target_of (is_void g.gives) t) f ((if b then t ∷ [] else []) ++ bs) c) (mk w x))) (sym structure)
           (subst (SimS g0 (R c) (m + 1) r) (sym (taken_is S i size m (Do (LocalO t m) call) w x h0.fit here words_there unused))
           (sets S (SimS g0 (R c) (m + 1)) γ1 s w1 x1 t (next_object w.store) (LocalO t m) call (eight γ1 w1 x1 (taken_now (anew g0 w x) (44 + 20 * length vs) i size w x start unused)) (at_free γ1) (ap (λ q. to temporaries t q (spent 8 (mk w1 x1))) (cell_there (anew g0 w x) (44 + 20 * length vs) m i size w x w1 x1 here there (taken_now (anew g0 w x) (44 + 20 * length vs) i size w x start unused))) r (λ y hy ey rest.
           structure_asks t n w0 y0 c f g structure span (length w.store.objects) (t ∷ bs) vs (m + 1) s w1 y (call_weight (t ∷ bs)) (omega (arith, long))

@@ -6,7 +6,7 @@ use Rattle.c_exprs.specs.Nodes.{is_place}
 use Rattle.c_meaning.specs.Frames.{over, over_all}
 use Rattle.lower_trees.specs.Shape.{Shape, params_of, result_of}
 use Rattle.lower_trees.specs.Flags.{is_flag}
-use Rattle.lower_trees.specs.Parts.{Nodes}
+use Rattle.lower_trees.specs.Pieces.{Nodes, coded}
 use Rattle.lower_trees.specs.Expressions.{second, beyond, spots, later_types, low, low_args, low_value, low_test}
 use Rattle.mid_lower.specs.SourceLoops.{is_call_of}
 use Rattle.mid_lower.proofs.Tallies.{tally, of_calls, converted_tally}
@@ -41,7 +41,7 @@ module _ (f : ℕ) (h : Shape) where
     low_uncalled (Typed HaltK ty span) e t n m c = refl
     low_uncalled (Typed CardK ty span) e t n m c = refl
 
-    args_uncalled : (tys : List Ty) (xs : TExprTs) → over_all (is_call_of f) xs ≡ zero → (n m : ℕ) (c : Nodes) → tally (of_calls f) (low_args h tys xs n m c) ≡ tally (of_calls f) c
+    args_uncalled : (tys : List Ty) (xs : TExprTs) → over_all (is_call_of f) xs ≡ zero → (n m : ℕ) (c : Nodes) → tally (of_calls f) (coded (low_args h tys xs n m) c) ≡ tally (of_calls f) c
     args_uncalled tys NoX e n m c = refl
     args_uncalled tys (MoreX x xs) e n m c =
         value_quiet (of_calls f) h x (low h x) (inl refl) (low_uncalled x (omega (arith, e))) n (n + 1) m _

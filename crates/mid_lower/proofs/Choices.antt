@@ -24,6 +24,7 @@ use Rattle.mid_code.specs.States.{pointers_tested, word_tested}
 use Rattle.lower_trees.specs.Shape.{Shape, shape_in, words}
 use Rattle.lower_trees.specs.Flags.{is_flag, tests_flag}
 use Rattle.lower_trees.specs.Parts as part
+use Rattle.lower_trees.specs.Pieces.{coded}
 use Rattle.lower_trees.specs.Expressions.{low, test}
 use Rattle.mid_lower.proofs.Grows.{Mid, Grows}
 use Rattle.mid_lower.proofs.Under.{then_both, equal_both}
@@ -76,10 +77,10 @@ module _ (S : Site) where
     not_null w (Err Strays) = refl
     not_null w (Err (Faults k)) = refl
 
-    pub test_as : (s0 : ℕ) (flag : Bool) (w : World) (x : Side) (ty : Ty) (v : Cell) → (flag ≡ true → IsFlag v) → Now γ (s0 + 16) w x → Free γ t → x.temps t ≡ v → Before t n x0 x → Tests γ σ s0 t n x0 c (flag || is_pointer ty) go last → σ.T (asked σ.stop span w (is_true w.store.objects ty v) (λ b. either_way b w go last)) (R (part.tested_as ty t c) (mk w x))
+    pub test_as : (s0 : ℕ) (flag : Bool) (w : World) (x : Side) (ty : Ty) (v : Cell) → (flag ≡ true → IsFlag v) → Now γ (s0 + 16) w x → Free γ t → x.temps t ≡ v → Before t n x0 x → Tests γ σ s0 t n x0 c (flag || is_pointer ty) go last → σ.T (asked σ.stop span w (is_true w.store.objects ty v) (λ b. either_way b w go last)) (R (coded (part.tested_as ty t) c) (mk w x))
     test_as s0 flag w x (PointerY of) v k h0 free e below f =
         let q : Answer Cell = then_ask (equal_pointers w.store.objects v Null) (λ b. Ok (truth (not b))) in
-        subst (λ r. σ.T r (R (part.tested_as (PointerY of) t c) (mk w x))) (sym (not_null w (equal_pointers w.store.objects v Null)))
+        subst (λ r. σ.T r (R (coded (part.tested_as (PointerY of) t) c) (mk w x))) (sym (not_null w (equal_pointers w.store.objects v Null)))
         (sets S σ.T γ (s0 + 8) w x part.other Null (NullO part.other) (Do (PtrTestO INE t t part.other) c) (spare γ (s0 + 16) (s0 + 8 + 8) w x (omega arith) h0) (low_free γ part.other (omega arith)) refl
         (asked σ.stop span w q (λ z. asked σ.stop span w (then_ask (word_of z) (λ i. Ok (not (i == 0)))) (λ b. either_way b w go last))) (λ y hy at rest.
         op_of S γ σ s0 span w y t q (pointers_tested INE y.objs (y.temps t) (y.temps part.other)) (PtrTestO INE t t part.other) c hy free
@@ -96,9 +97,9 @@ module _ (S : Site) where
 
   -- a condition
   pub tests : (γ : Goal) (σ : Way γ) (s0 t n m : ℕ) (w : World) (x : Side) (c : NodesT ℕ) → Now γ s0 w x → Free γ t → γ.first ≤ n → scratch ≤ t → t < n → (e : TExprT) → is_structure (type_of e) ≡ false → Room S γ.base m (value_sizes (shape_in S.s) e) → (go last : World → σ.R) → Follow S e → Tests γ σ (s0 + 12) t n x c (tests_flag e) go last
-      → σ.T (tested σ.stop S.s S.bound e (evaluated S.s S.bound S.prev e w) go last) (R (test h e (low h e) t n m c) (mk w x))
+      → σ.T (tested σ.stop S.s S.bound e (evaluated S.s S.bound S.prev e w) go last) (R (coded (test h e (low h e) t n m) c) (mk w x))
   tests γ σ s0 t n m w x c h0 free le st tn e ns room go last sim f =
-      uses S γ σ s0 t n m w x (part.tested_as (decayed (type_of e)) t c) h0 free le st tn e ns room (λ v u. asked σ.stop (span_of e) u (is_true u.store.objects (decayed (type_of e)) v) (λ b. either_way b u go last)) sim
+      uses S γ σ s0 t n m w x (coded (part.tested_as (decayed (type_of e)) t) c) h0 free le st tn e ns room (λ v u. asked σ.stop (span_of e) u (is_true u.store.objects (decayed (type_of e)) v) (λ b. either_way b u go last)) sim
       (λ v wa xa flag ha at below. test_as γ σ (span_of e) t n c x go last st (s0 + 12) (is_flag e) wa xa (decayed (type_of e)) v flag (spare γ (s0 + 28) (s0 + 12 + 16) wa xa (omega arith) ha) free at below f)
 
   -- a choice by a word
@@ -116,7 +117,7 @@ module _ (S : Site) where
   -- the value in a is converted to the type of the place in p, and stored there
   pub assigns : (γ : Goal) (T : Val → Res Mid → Type 0) (stops : (f : End) (w : World) (m : Res Mid) → Kept γ f w m → T (Stops f w) m) (s0 : ℕ) (span : Span) (w : World) (x : Side) (e : TExprT) (known : Bool) (p a : ℕ) (vp v : Cell) (c : NodesT ℕ) → is_structure (type_of e) ≡ false → Now γ (s0 + 16) w x → Free γ a → eqb p a ≡ false → x.temps p ≡ vp → x.temps a ≡ v → (known ≡ true → IsFlag v)
       → ((z : Cell) (u : World) (y : Side) → Now γ s0 u y → y.temps a ≡ z → Rest a x y → T (Value z u) (R c (mk u y)))
-      → T (assigned S.s S.bound e span vp v w) (R (part.converted (type_of e) known a (Do (StoreO p a) c)) (mk w x))
+      → T (assigned S.s S.bound e span vp v w) (R (coded (part.converted (type_of e) known a) (Do (StoreO p a) c)) (mk w x))
   assigns γ T stops s0 span w x e known p a vp v c ns h0 free ne ep ev flag f =
       let σ : Way γ = record { R = Val; stop = Stops; T = T; stops = stops } in
       let ty : Ty = type_of e in

@@ -22,9 +22,10 @@ use Rattle.mid_code.specs.States.{temporaries, to, spent, received, function_at,
 use Rattle.mid_code.specs.inner.Passing.{Prefix}
 use Rattle.lower_trees.specs.Shape.{Shape, shape_in, words}
 use Rattle.lower_trees.specs.Parts as part
+use Rattle.lower_trees.specs.Pieces.{coded}
 use Rattle.lower_trees.specs.Statements.{ToEnd, low_stmt, low_stmts}
-use Rattle.lower_trees.specs.Statements as low
 use Rattle.lower_trees.specs.Lowered.{args_from, with_result, all_received, first_of, low_body}
+use Rattle.lower_trees.specs.Statements as low
 use Rattle.lower_trees.specs.Lowered as lowered
 use Rattle.mid_lower.proofs.Grows.{Mid, Grows, all_of, more, then_grows, block_grows}
 use Rattle.mid_lower.proofs.Lives.{later_then}
@@ -49,7 +50,7 @@ use Rattle.mid_lower.proofs.EveryStatement.{all_sim, stmt_sim}
 -- the functions of the code are those of the program, lowered
 pub record Lowers (s : Setting) (code : CodeT ℕ) (frames : List ℕ) : Type 0 where
   pub fits : Fits s code frames
-  pub body : (f : ℕ) (g : TFunctionT) → slice_get s.functions f ≡ Some g → (function_at code f).body ≡ low_body (shape_in s) g
+  pub body : (f : ℕ) (g : TFunctionT) → slice_get s.functions f ≡ Some g → (function_at code f).body ≡ coded (low_body (shape_in s) g) Stop
   pub own : (f : ℕ) (g : TFunctionT) → slice_get s.functions f ≡ Some g → s.sizes.locals f ≡ g.locals
   pub behind : (f : ℕ) (g : TFunctionT) → slice_get s.functions f ≡ Some g → fits.more f ≡ stmts_sizes (shape_in s) g.body
   pub made : (f : ℕ) (g : TFunctionT) → slice_get s.functions f ≡ Some g → Below (length g.locals) g.made
@@ -147,12 +148,12 @@ module _ (S : Site) (v : Giving) where
 
   -- a cell is stored
   cell_received : (γ : Goal) (ty : Ty) (z : Cell) (s k a : ℕ) (w : World) (x : Side) (c : NodesT ℕ) → γ.first ≡ 0 → is_structure ty ≡ false → 16 ≤ a → Now γ (s + 16) w x → x.temps a ≡ z → (rest : World → Went) (go : World → Done) → Onward γ s x c rest go
-      → SimF v γ (then_went Ended (asked CutOff nowhere w (first_cell (local_object w.store.locals k)) (λ p. then_went CutOff (stored S.s S.bound 0 ty nowhere p z w) rest)) go) (R (lowered.received h ty k a c) (mk w x))
+      → SimF v γ (then_went Ended (asked CutOff nowhere w (first_cell (local_object w.store.locals k)) (λ p. then_went CutOff (stored S.s S.bound 0 ty nowhere p z w) rest)) go) (R (coded (lowered.received h ty k a) c) (mk w x))
   cell_received γ ty z s k a w x c e scalar sa h0 at rest go f =
       let t : ℕ = part.param_at k in
       let small : t < 16 = param_fixed k in
       let inside : Cell → Went = λ p. then_went CutOff (stored S.s S.bound 0 ty nowhere p z w) rest in
-      subst (λ q. SimF v γ (then_went Ended (asked CutOff nowhere w (first_cell (local_object w.store.locals k)) inside) go) (R (if q then Do (MoveO part.from a) (Do (LocalO part.to k) (part.copied (words h ty) c)) else Do (LocalO t k) (Do (StoreO t a) c)) (mk w x))) (sym scalar)
+      subst (λ q. SimF v γ (then_went Ended (asked CutOff nowhere w (first_cell (local_object w.store.locals k)) inside) go) (R (if q then Do (MoveO part.from a) (Do (LocalO part.to k) (coded (part.copied (words h ty)) c)) else Do (LocalO t k) (Do (StoreO t a) c)) (mk w x))) (sym scalar)
       (op S γ (way_w γ go) (s + 8) nowhere w x t (first_cell (local_object w.store.locals k)) (first_cell (local_object (w.store.locals ++ x.extra) k)) (LocalO t k) (Do (StoreO t a) c)
       (spare γ (s + 16) (s + 8 + 8) w x (omega arith) h0) (λ j g l ne. absurd (omega (arith, l, e))) (local_front w.store.locals x.extra k) refl inside
       (λ p y hy ey keep.
@@ -164,7 +165,7 @@ module _ (S : Site) (v : Giving) where
 
   -- a structure is copied: where the run ends at that, there is more to spare
   structure_received : (γ : Goal) (ty : Ty) (z : Cell) (s k a : ℕ) (w : World) (x : Side) (c : NodesT ℕ) → 16 ≤ γ.ends → is_structure ty ≡ true → Now γ (s + 16) w x → x.temps a ≡ z → (rest : World → Went) (go : World → Done) → Onward γ s x c rest go
-      → SimF v γ (then_went Ended (asked CutOff nowhere w (first_cell (local_object w.store.locals k)) (λ p. then_went CutOff (stored S.s S.bound 0 ty nowhere p z w) rest)) go) (R (lowered.received h ty k a c) (mk w x))
+      → SimF v γ (then_went Ended (asked CutOff nowhere w (first_cell (local_object w.store.locals k)) (λ p. then_went CutOff (stored S.s S.bound 0 ty nowhere p z w) rest)) go) (R (coded (lowered.received h ty k a) c) (mk w x))
   structure_received γ ty z s k a w x c more_at_ends structure h0 at rest go f =
       let size : ℕ = words h ty in
       let few : size < 2 ^ 32 = in_words (words_of h.layouts ty) in
@@ -172,7 +173,7 @@ module _ (S : Site) (v : Giving) where
       let inside : Cell → Went = λ p. then_went CutOff (cells_set nowhere 1 S.bound size (Some z) p w) rest in
       let γ1 : Goal = record γ { from = γ.from + 16; ends = 0 } in
       let σ : Way γ1 = record { R = Done; stop = Ended; T = SimF v γ; stops = λ g u m q. kept_wider γ γ1 (omega (arith, more_at_ends)) g u m q } in
-      let c2 : NodesT ℕ = part.copied size c in
+      let c2 : NodesT ℕ = coded (part.copied size) c in
       subst (λ q. SimF v γ (then_went Ended (asked CutOff nowhere w first (λ p. then_went CutOff (if q then cells_set nowhere (0 + 1) S.bound size (Some z) p w else asked CutOff nowhere (spend 0 w) (write w.store.objects p z) (λ os. Through (on_store (with_objects os) (spend 0 w)))) rest)) go) (R (if q then Do (MoveO part.from a) (Do (LocalO part.to k) c2) else Do (LocalO (part.param_at k) k) (Do (StoreO (part.param_at k) a) c)) (mk w x))) (sym structure)
       (sets S (SimF v γ) γ (s + 8) w x part.from z (MoveO part.from a) (Do (LocalO part.to k) c2) (spare γ (s + 16) (s + 8 + 8) w x (omega arith) h0) (low_free γ part.from (omega arith)) (ap (λ q. to temporaries part.from (Ok q) (spent 8 (mk w x))) at) (then_went Ended (asked CutOff nowhere w first inside) go) (λ y hy ey rest1.
       op S γ (way_w γ go) s nowhere w y part.to first (first_cell (local_object (w.store.locals ++ y.extra) k)) (LocalO part.to k) c2 hy (low_free γ part.to (omega arith)) (local_front w.store.locals y.extra k) refl inside (λ p u hu eu rest2.
@@ -182,20 +183,20 @@ module _ (S : Site) (v : Giving) where
       (others part.result_at (omega arith) ∙ rest2 part.result_at refl ∙ rest1 part.result_at refl, λ j le. others j (omega (arith, le)) ∙ rest2 j (eqb_more j part.to (omega (arith, le))) ∙ rest1 j (eqb_more j part.from (omega (arith, le)))))))))
 
   received_sim : (γ : Goal) (ty : Ty) (z : Cell) (s k a : ℕ) (w : World) (x : Side) (c : NodesT ℕ) → γ.first ≡ 0 → 16 ≤ γ.ends → 16 ≤ a → Now γ (s + 16) w x → x.temps a ≡ z → (rest : World → Went) (go : World → Done) → Onward γ s x c rest go
-      → SimF v γ (then_went Ended (asked CutOff nowhere w (first_cell (local_object w.store.locals k)) (λ p. then_went CutOff (stored S.s S.bound 0 ty nowhere p z w) rest)) go) (R (lowered.received h ty k a c) (mk w x))
+      → SimF v γ (then_went Ended (asked CutOff nowhere w (first_cell (local_object w.store.locals k)) (λ p. then_went CutOff (stored S.s S.bound 0 ty nowhere p z w) rest)) go) (R (coded (lowered.received h ty k a) c) (mk w x))
   received_sim γ ty z s k a w x c e more_at_ends sa h0 at rest go f = by (is_structure ty) refl
     where
-      by : (b : Bool) → is_structure ty ≡ b → SimF v γ (then_went Ended (asked CutOff nowhere w (first_cell (local_object w.store.locals k)) (λ p. then_went CutOff (stored S.s S.bound 0 ty nowhere p z w) rest)) go) (R (lowered.received h ty k a c) (mk w x))
+      by : (b : Bool) → is_structure ty ≡ b → SimF v γ (then_went Ended (asked CutOff nowhere w (first_cell (local_object w.store.locals k)) (λ p. then_went CutOff (stored S.s S.bound 0 ty nowhere p z w) rest)) go) (R (coded (lowered.received h ty k a) c) (mk w x))
       by true structure = structure_received γ ty z s k a w x c more_at_ends structure h0 at rest go f
       by false scalar = cell_received γ ty z s k a w x c e scalar sa h0 at rest go f
 
   params_sim : (γ : Goal) (tys : List Ty) (vs : List Cell) (s0 k a : ℕ) (w : World) (x : Side) (c : NodesT ℕ) → γ.first ≡ 0 → 16 ≤ γ.ends → 16 ≤ a → Now γ (s0 + 16 * length vs) w x → Firsts a tys vs x.temps → (go : World → Done) → ((wa : World) (xa : Side) → Now γ s0 wa xa → xa.temps part.result_at ≡ x.temps part.result_at → SimF v γ (go wa) (R c (mk wa xa)))
-      → SimF v γ (then_went Ended (params_stored S.s S.bound k tys vs w) go) (R (all_received h tys k a c) (mk w x))
+      → SimF v γ (then_went Ended (params_stored S.s S.bound k tys vs w) go) (R (coded (all_received h tys k a) c) (mk w x))
   params_sim γ [] [] s0 k a w x c e more_at_ends sa h0 fs go f = f w x (spare γ (s0 + 16 * 0) s0 w x (omega arith) h0) refl
   params_sim γ [] (z ∷ vs) s0 k a w x c e more_at_ends sa h0 fs go f = R_grows c (mk w x)
-  params_sim γ (ty ∷ tys) [] s0 k a w x c e more_at_ends sa h0 fs go f = R_grows (all_received h (ty ∷ tys) k a c) (mk w x)
+  params_sim γ (ty ∷ tys) [] s0 k a w x c e more_at_ends sa h0 fs go f = R_grows (coded (all_received h (ty ∷ tys) k a) c) (mk w x)
   params_sim γ (ty ∷ tys) (z ∷ vs) s0 k a w x c e more_at_ends sa h0 fs go f =
-      received_sim γ ty z (s0 + 16 * length vs) k a w x (all_received h tys (k + 1) (a + 1) c) e more_at_ends sa (spare γ (s0 + 16 * suc (length vs)) (s0 + 16 * length vs + 16) w x (omega arith) h0) fs.0 (params_stored S.s S.bound (k + 1) tys vs) go
+      received_sim γ ty z (s0 + 16 * length vs) k a w x (coded (all_received h tys (k + 1) (a + 1)) c) e more_at_ends sa (spare γ (s0 + 16 * suc (length vs)) (s0 + 16 * length vs + 16) w x (omega arith) h0) fs.0 (params_stored S.s S.bound (k + 1) tys vs) go
       (λ u y hu beyond. params_sim γ tys vs s0 (k + 1) (a + 1) u y c e more_at_ends (omega (arith, sa)) hu (firsts_same (a + 1) tys vs x.temps y.temps (λ j le. beyond.1 j (omega (arith, le, sa))) fs.1) go
       (λ wa xa ha kept. f wa xa ha (kept ∙ beyond.0)))
 
@@ -222,7 +223,7 @@ module _ (s : Setting) (code : CodeT ℕ) (frames : List ℕ) (lowers : Lowers s
       let own : ℕ = length g.locals in
       let v : Giving = giving g.gives r in
       let n : ℕ = first_of g.params in
-      let cb : NodesT ℕ = low_stmts (shape_in s) g.gives g.body n (length g.locals) 0 (ToEnd 0) Stop in
+      let cb : NodesT ℕ = coded (low_stmts (shape_in s) g.gives g.body n (length g.locals) 0 (ToEnd 0)) Stop in
       let counts : length w1.store.locals ≡ own = unmade_length (s.sizes.locals f) ∙ ap (λ l. length l) (lowers.own f g eg) in
       let home : HomeOf s code frames g.gives (Some f) own = record {
         words = λ k lt. ap (λ l. get_or l k 0) (lowers.fits.locals f) ∙ get_first (s.sizes.locals f) (lowers.fits.more f) k (omega (arith, lt, ap (λ l. length l) (lowers.own f g eg)));
@@ -231,7 +232,7 @@ module _ (s : Setting) (code : CodeT ℕ) (frames : List ℕ) (lowers : Lowers s
       let handed_there : Firsts part.first_param g.params vs x1.temps × AtPlace g.gives r x1.temps = subst (λ ps. Firsts part.first_param g.params vs (received temporaries ps us) × AtPlace g.gives r (received temporaries ps us)) (sym (lowers.fits.params f g eg)) (handed_received g.gives r g.params vs) in
       subst (λ o. SimF v γ (body_of s i (below s i) o vs r w1) (M S (function_at code f).body (mk w1 x1))) (sym eg)
       (subst (λ c. SimF v γ (body_of s i (below s i) (Some g) vs r w1) (M S c (mk w1 x1))) (sym (lowers.body f g eg))
-      (mades S g.gives γ (8 + 16 * length vs) (SimF v γ) g.made w1 x1 (all_received (shape_in s) g.params 0 part.first_param (Block cb Stop)) (subst (λ o. HomeOf s code frames g.gives (Some f) o) (sym counts) home) (subst (λ o. Below o g.made) (sym counts) (lowers.made f g eg))
+      (mades S g.gives γ (8 + 16 * length vs) (SimF v γ) g.made w1 x1 (coded (all_received (shape_in s) g.params 0 part.first_param) (Block cb Stop)) (subst (λ o. HomeOf s code frames g.gives (Some f) o) (sym counts) home) (subst (λ o. Below o g.made) (sym counts) (lowers.made f g eg))
       (record { stays = stays_here w1 x1 (record { under = u; unused = λ k le. subst (Gone w1.store.objects) (sym (unmade_none (lowers.fits.more f) k)) tt }); below = λ j a lt ne. refl; cost = omega arith })
       (λ y. then_went Ended (params_stored s i 0 g.params vs y) (does_all s i (below s i) r g.body))
       (λ wa xa ha same_temps. params_sim S v γ g.params vs 8 0 part.first_param wa xa (Block cb Stop) refl (omega arith) (omega arith) ha (subst (Firsts part.first_param g.params vs) (sym same_temps) handed_there.0) (does_all s i (below s i) r g.body)
@@ -260,11 +261,11 @@ module _ (s : Setting) (code : CodeT ℕ) (frames : List ℕ) (lowers : Lowers s
   step i before = record {
     called = function_sim i before;
     while_turn = λ r ty own e a n m b j w x u place home eo sce sca sn room. while_sim (at i) before r ty own e a sce (stmt_sim (at i) before r ty own a sca) (turning n w x) (omega arith) n m b j Stop w x sn (omega arith) (has_place ty r n w x sn place) home eo (turn_now n w x u) (below s i (Turn r (Some e) None a)) room
-        (λ wa xa ha. turn_wide (giving ty r) (turning n w x) (omega arith) n b j k_next wa xa ha (omega arith) (below s i (Turn r (Some e) None a) wa) (mid_below (over_worlds temporaries code frames) i (low_stmt its_shape ty (WhileZ e a) n m 0 (ToEnd 0) Stop) (mk wa xa)) (before.while_turn r ty own e a n m b j wa xa ha.stays.fit (has_place ty r n w x sn place xa.temps ha.below) (subst (λ fn. HomeOf s code frames ty fn own) (sym ha.stays.same_function) home) (ha.stays.same_own ∙ eo) sce sca sn (room_at (at i) (base_of w x) m (value_sizes its_shape e ++ stmt_sizes its_shape a) wa xa room ha.stays)));
+        (λ wa xa ha. turn_wide (giving ty r) (turning n w x) (omega arith) n b j k_next wa xa ha (omega arith) (below s i (Turn r (Some e) None a) wa) (mid_below (over_worlds temporaries code frames) i (coded (low_stmt its_shape ty (WhileZ e a) n m 0 (ToEnd 0)) Stop) (mk wa xa)) (before.while_turn r ty own e a n m b j wa xa ha.stays.fit (has_place ty r n w x sn place xa.temps ha.below) (subst (λ fn. HomeOf s code frames ty fn own) (sym ha.stays.same_function) home) (ha.stays.same_own ∙ eo) sce sca sn (room_at (at i) (base_of w x) m (value_sizes its_shape e ++ stmt_sizes its_shape a) wa xa room ha.stays)));
     do_turn = λ r ty own e a n m b j w x u place home eo sce sca sn room. do_sim (at i) before r ty own e a sce (stmt_sim (at i) before r ty own a sca) (turning n w x) (omega arith) n m b j Stop w x sn (omega arith) (has_place ty r n w x sn place) home eo (turn_now n w x u) (below s i (DoTurn r a e)) room
-        (λ wa xa ha. turn_wide (giving ty r) (turning n w x) (omega arith) n b j k_next wa xa ha (omega arith) (below s i (DoTurn r a e) wa) (mid_below (over_worlds temporaries code frames) i (low_stmt its_shape ty (DoWhileZ a e) n m 0 (ToEnd 0) Stop) (mk wa xa)) (before.do_turn r ty own e a n m b j wa xa ha.stays.fit (has_place ty r n w x sn place xa.temps ha.below) (subst (λ fn. HomeOf s code frames ty fn own) (sym ha.stays.same_function) home) (ha.stays.same_own ∙ eo) sce sca sn (room_at (at i) (base_of w x) m (stmt_sizes its_shape a ++ value_sizes its_shape e) wa xa room ha.stays)));
+        (λ wa xa ha. turn_wide (giving ty r) (turning n w x) (omega arith) n b j k_next wa xa ha (omega arith) (below s i (DoTurn r a e) wa) (mid_below (over_worlds temporaries code frames) i (coded (low_stmt its_shape ty (DoWhileZ a e) n m 0 (ToEnd 0)) Stop) (mk wa xa)) (before.do_turn r ty own e a n m b j wa xa ha.stays.fit (has_place ty r n w x sn place xa.temps ha.below) (subst (λ fn. HomeOf s code frames ty fn own) (sym ha.stays.same_function) home) (ha.stays.same_own ∙ eo) sce sca sn (room_at (at i) (base_of w x) m (stmt_sizes its_shape a ++ value_sizes its_shape e) wa xa room ha.stays)));
     for_turn = λ r ty own test each a n m b j w x u place home eo sct scs sca sn room. for_sim (at i) before r ty own test each a sct scs (stmt_sim (at i) before r ty own a sca) (turning n w x) (omega arith) n m b j Stop w x sn (omega arith) (has_place ty r n w x sn place) home eo (turn_now n w x u) room (below s i (Turn r test each a))
-        (λ wa xa ha. turn_wide (giving ty r) (turning n w x) (omega arith) n b j k_next wa xa ha (omega arith) (below s i (Turn r test each a) wa) (mid_below (over_worlds temporaries code frames) i (low.turns its_shape test each a (λ k l. low_stmt its_shape ty a k l 1 (ToEnd 0) Stop) n m Stop) (mk wa xa)) (before.for_turn r ty own test each a n m b j wa xa ha.stays.fit (has_place ty r n w x sn place xa.temps ha.below) (subst (λ fn. HomeOf s code frames ty fn own) (sym ha.stays.same_function) home) (ha.stays.same_own ∙ eo) sct scs sca sn (room_at (at i) (base_of w x) m (maybe_sizes its_shape test ++ (stmt_sizes its_shape a ++ maybe_sizes its_shape each)) wa xa room ha.stays)));
+        (λ wa xa ha. turn_wide (giving ty r) (turning n w x) (omega arith) n b j k_next wa xa ha (omega arith) (below s i (Turn r test each a) wa) (mid_below (over_worlds temporaries code frames) i (coded (low.turns its_shape test each a (λ k l. low_stmt its_shape ty a k l 1 (ToEnd 0)) n m) Stop) (mk wa xa)) (before.for_turn r ty own test each a n m b j wa xa ha.stays.fit (has_place ty r n w x sn place xa.temps ha.below) (subst (λ fn. HomeOf s code frames ty fn own) (sym ha.stays.same_function) home) (ha.stays.same_own ∙ eo) sct scs sca sn (room_at (at i) (base_of w x) m (maybe_sizes its_shape test ++ (stmt_sizes its_shape a ++ maybe_sizes its_shape each)) wa xa room ha.stays)));
   }
 
   -- with a bound of 0 all is out of bound

@@ -24,6 +24,7 @@ use Rattle.lower_trees.specs.Shape.{Shape, shape_in, params_of}
 use Rattle.lower_trees.specs.Parts as part
 use Rattle.lower_trees.specs.Counts.{sizes, value_sizes}
 use Rattle.lower_trees.specs.Expressions as low
+use Rattle.lower_trees.specs.Pieces.{coded}
 use Rattle.lower_trees.specs.Expressions.{low_args, spots}
 use Rattle.mid_lower.proofs.Grows.{Mid}
 use Rattle.mid_lower.proofs.Fits.{Site}
@@ -52,13 +53,13 @@ module _ (S : Site) (bodies : BodiesFollow S) where
   member_case : (a : TExprT) → Follow S a → is_place a ≡ true → (ty : Ty) (span : Span) (offset : ℕ) → Follow S (Typed (MemberK a offset) ty span)
   member_case (Typed kind ta sa) sim e ty span offset t n m c w x st tn u room =
       let a : TExprT = Typed kind ta sa in
-      subst (λ b. SimV (goal b t n w x) (R c) b (src.member_at ty a span offset (evaluated S.s S.bound S.prev a (tick w))) (R (low.low h a n (n + 1) m (part.moved_by t n offset (low.member_of b ty t c))) (mk w x))) (sym e) (member_sim S ty a sim e span offset t n m c w x st tn u room)
+      subst (λ b. SimV (goal b t n w x) (R c) b (src.member_at ty a span offset (evaluated S.s S.bound S.prev a (tick w))) (R (coded (low.low h a n (n + 1) m) (coded (part.moved_by t n offset) (coded (low.member_of b ty t) c))) (mk w x))) (sym e) (member_sim S ty a sim e span offset t n m c w x st tn u room)
 
   -- a cell of a structure that is a value
   cell_case : (a : TExprT) → FollowStructure S a → is_place a ≡ false → (ty : Ty) (span : Span) (offset : ℕ) → is_structure ty ≡ false → Follow S (Typed (MemberK a offset) ty span)
   cell_case (Typed kind ta sa) sim e ty span offset scalar t n m c w x st tn u room =
       let a : TExprT = Typed kind ta sa in
-      subst (λ b. SimV (goal b t n w x) (R c) b (src.member_at ty a span offset (evaluated S.s S.bound S.prev a (tick w))) (R (low.low h a n (n + 1) m (part.moved_by t n offset (low.member_of b ty t c))) (mk w x))) (sym e) (member_cell S ty a sim scalar span offset t n m c w x st tn u room)
+      subst (λ b. SimV (goal b t n w x) (R c) b (src.member_at ty a span offset (evaluated S.s S.bound S.prev a (tick w))) (R (coded (low.low h a n (n + 1) m) (coded (part.moved_by t n offset) (coded (low.member_of b ty t) c))) (mk w x))) (sym e) (member_cell S ty a sim scalar span offset t n m c w x st tn u room)
 
   either_member : (a : TExprT) (ty : Ty) (span : Span) (offset : ℕ) → (is_place a ≡ true → Follow S a) → (is_place a ≡ false → FollowStructure S a) → (is_place a ≡ false → is_structure ty ≡ false) → Follow S (Typed (MemberK a offset) ty span)
   either_member a ty span offset f g scalar = by (is_place a) refl
@@ -77,7 +78,7 @@ module _ (S : Site) (bodies : BodiesFollow S) where
   inner_case : (a : TExprT) → FollowStructure S a → is_place a ≡ false → (ty : Ty) (span : Span) (offset : ℕ) → is_structure ty ≡ true → FollowStructure S (Typed (MemberK a offset) ty span)
   inner_case (Typed kind ta sa) sim e ty span offset structure t n m c w x st tn u room =
       let a : TExprT = Typed kind ta sa in
-      subst (λ b. SimS (structure_goal t n w x) (R c) (m + length (sizes h a)) (src.member_at ty a span offset (evaluated S.s S.bound S.prev a (tick w))) (R (low.low h a n (n + 1) m (part.moved_by t n offset (low.member_of b ty t c))) (mk w x))) (sym e) (member_structure S ty a sim structure span offset t n m c w x st tn u room)
+      subst (λ b. SimS (structure_goal t n w x) (R c) (m + length (sizes h a)) (src.member_at ty a span offset (evaluated S.s S.bound S.prev a (tick w))) (R (coded (low.low h a n (n + 1) m) (coded (part.moved_by t n offset) (coded (low.member_of b ty t) c))) (mk w x))) (sym e) (member_structure S ty a sim structure span offset t n m c w x st tn u room)
 
   either_inner : (a : TExprT) (ty : Ty) (span : Span) (offset : ℕ) → (is_place a ≡ true → Follow S a) → (is_place a ≡ false → FollowStructure S a) → is_structure ty ≡ true → FollowValue S (Typed (MemberK a offset) ty span)
   either_inner (Typed kind ta sa) ty span offset f g structure = by (is_place (Typed kind ta sa)) refl

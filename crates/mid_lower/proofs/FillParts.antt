@@ -15,6 +15,7 @@ use Rattle.c_meaning.specs.Initialisers.{rest_filled}
 use Rattle.mid_code.specs.Code.{MoveO, ConstO, StepO, StoreO, NodesT, Do}
 use Rattle.mid_code.specs.Meaning.{Res}
 use Rattle.mid_code.specs.States.{temporaries, to, spent}
+use Rattle.lower_trees.specs.Pieces.{coded}
 use Rattle.lower_trees.specs.Shape.{Shape, shape_in, words}
 use Rattle.lower_trees.specs.Parts as part
 use Rattle.lower_trees.specs.Initialisers as low
@@ -65,7 +66,7 @@ module _ (S : Site) (bodies : BodiesFollow S) (γ : Goal) (skips : 2 ≤ γ.skip
 
   -- ---- parts
 
-  pub at_part : {A : Type 0} (T : A → Res Mid → Type 0) (s0 o p offset : ℕ) (w : World) (x : Side) (c : NodesT ℕ) → Now γ (s0 + 16) w x → 7 ≤ p → x.temps p ≡ Ptr o 0 → (r : A) → ((y : Side) → Now γ s0 w y → y.temps part.to ≡ part_of o offset → Rest part.to x y → T r (R c (mk w y))) → T r (R (low.part_at p offset c) (mk w x))
+  pub at_part : {A : Type 0} (T : A → Res Mid → Type 0) (s0 o p offset : ℕ) (w : World) (x : Side) (c : NodesT ℕ) → Now γ (s0 + 16) w x → 7 ≤ p → x.temps p ≡ Ptr o 0 → (r : A) → ((y : Side) → Now γ s0 w y → y.temps part.to ≡ part_of o offset → Rest part.to x y → T r (R c (mk w y))) → T r (R (coded (low.part_at p offset) c) (mk w x))
   at_part T s0 o p zero w x c hn le e r f = sets S T γ (s0 + 8) w x part.to (Ptr o 0) (MoveO part.to p) c (spare γ (s0 + 16) (s0 + 8 + 8) w x (omega arith) hn) (low_free γ part.to (omega arith)) (ap (λ q. to temporaries part.to (Ok q) (spent 8 (mk w x))) e) r (λ y hy at rest. f y (spare γ (s0 + 8) s0 w y (omega arith) hy) at rest)
   at_part T s0 o p (suc k) w x c hn le e r f =
       sets S T γ (s0 + 8) w x part.to (Num (suc k)) (ConstO part.to (suc k)) (Do (StepO part.to p part.to) c) (spare γ (s0 + 16) (s0 + 8 + 8) w x (omega arith) hn) (low_free γ part.to (omega arith)) refl r (λ y hy at rest.
@@ -74,7 +75,7 @@ module _ (S : Site) (bodies : BodiesFollow S) (γ : Goal) (skips : 2 ≤ γ.skip
 
   -- the cell in `item` fills the part
   pub cell_sim : (σ : Way γ) (s0 o p offset : ℕ) (w : World) (x : Side) (z : Cell) (c : NodesT ℕ) → Now γ (s0 + 24) w x → 7 ≤ p → x.temps p ≡ Ptr o 0 → x.temps part.item ≡ z → (go : World → σ.R) → ((os : List ObjectT) (y : Side) → Now γ s0 (on_store (with_objects os) w) y → ((j : ℕ) → scratch ≤ j → y.temps j ≡ x.temps j) → σ.T (go (on_store (with_objects os) w)) (R c (mk (on_store (with_objects os) w) y)))
-      → σ.T (asked σ.stop nowhere w (write w.store.objects (part_of o offset) z) (λ os. go (on_store (with_objects os) w))) (R (low.cell_filled p offset c) (mk w x))
+      → σ.T (asked σ.stop nowhere w (write w.store.objects (part_of o offset) z) (λ os. go (on_store (with_objects os) w))) (R (coded (low.cell_filled p offset) c) (mk w x))
   cell_sim σ s0 o p zero w x z c hn le e ez go f = stores S γ σ nowhere w s0 x p part.item (Ptr o 0) z c (spare γ (s0 + 24) (s0 + 8) w x (omega arith) hn) e ez go (λ os y hy alike. f os y hy (λ j g. alike j))
   cell_sim σ s0 o p (suc k) w x z c hn le e ez go f =
       at_part σ.T (s0 + 8) o p (suc k) w x (Do (StoreO part.to part.item) c) (spare γ (s0 + 24) (s0 + 8 + 16) w x (omega arith) hn) le e (asked σ.stop nowhere w (write w.store.objects (part_of o (suc k)) z) (λ os. go (on_store (with_objects os) w)))
@@ -82,16 +83,16 @@ module _ (S : Site) (bodies : BodiesFollow S) (γ : Goal) (skips : 2 ≤ γ.skip
 
   -- cells of the part are set to 0
   pub zeros_sim : (σ : Way γ) (s0 size o p offset : ℕ) → size ≤ 2 ^ 32 → (w : World) (x : Side) (c : NodesT ℕ) → Now γ (s0 + 40) w x → 7 ≤ p → x.temps p ≡ Ptr o 0 → (go : World → σ.R) → ((v : World) (y : Side) → Now γ s0 v y → ((j : ℕ) → scratch ≤ j → y.temps j ≡ x.temps j) → σ.T (go v) (R c (mk v y)))
-      → σ.T (then_went σ.stop (cells_set nowhere 1 S.bound size None (part_of o offset) w) go) (R (low.part_zeroed p offset size c) (mk w x))
+      → σ.T (then_went σ.stop (cells_set nowhere 1 S.bound size None (part_of o offset) w) go) (R (coded (low.part_zeroed p offset size) c) (mk w x))
   zeros_sim σ s0 zero o p offset fits w x c hn le e go f = f w x (spare γ (s0 + 40) s0 w x (omega arith) hn) (λ j g. refl)
   zeros_sim σ s0 (suc left) o p offset fits w x c hn le e go f =
-      at_part σ.T (s0 + 24) o p offset w x (part.zeroed (suc left) c) (spare γ (s0 + 40) (s0 + 24 + 16) w x (omega arith) hn) le e (then_went σ.stop (cells_set nowhere 1 S.bound (suc left) None (part_of o offset) w) go)
+      at_part σ.T (s0 + 24) o p offset w x (coded (part.zeroed (suc left)) c) (spare γ (s0 + 40) (s0 + 24 + 16) w x (omega arith) hn) le e (then_went σ.stop (cells_set nowhere 1 S.bound (suc left) None (part_of o offset) w) go)
       (λ y hy at rest. zeroes S γ nowhere 1 (omega arith) σ s0 (suc left) fits (part_of o offset) w y c hy at go (λ v u hu others. f v u (spare γ (s0 + 16) s0 v u (omega arith) hu) (λ j g. others j (omega (arith, g)) ∙ rest j (eqb_more j part.to (omega (arith, g))))))
 
   pub rest_sim : (ty : Ty) (k : ℕ) → RestFits h ty k → (σ : Way γ) (s0 o p offset : ℕ) (w : World) (x : Side) (c : NodesT ℕ) → Now γ (s0 + 40) w x → 7 ≤ p → x.temps p ≡ Ptr o 0 → (go : World → σ.R) → ((v : World) (y : Side) → Now γ s0 v y → ((j : ℕ) → scratch ≤ j → y.temps j ≡ x.temps j) → σ.T (go v) (R c (mk v y)))
-      → σ.T (then_went σ.stop (rest_filled S.s S.bound ty k (part_of o offset) w) go) (R (low.low_rest h ty k p offset c) (mk w x))
+      → σ.T (then_went σ.stop (rest_filled S.s S.bound ty k (part_of o offset) w) go) (R (coded (low.low_rest h ty k p offset) c) (mk w x))
   rest_sim (ArrayY of len) k fits σ s0 o p offset w x c hn le e go f =
-      subst (λ q. σ.T (then_went σ.stop (cells_set nowhere 1 S.bound (words h of * (len - k)) None (part_of o offset) w) go) (R (low.part_zeroed p offset q c) (mk w x))) (sym (mod-eq_of_lt fits))
+      subst (λ q. σ.T (then_went σ.stop (cells_set nowhere 1 S.bound (words h of * (len - k)) None (part_of o offset) w) go) (R (coded (low.part_zeroed p offset q) c) (mk w x))) (sym (mod-eq_of_lt fits))
       (zeros_sim σ s0 (words h of * (len - k)) o p offset (omega (arith, fits)) w x c hn le e go f)
   rest_sim VoidY k fits σ s0 o p offset w x c hn le e go f = f w x (spare γ (s0 + 40) s0 w x (omega arith) hn) (λ j g. refl)
   rest_sim IntY k fits σ s0 o p offset w x c hn le e go f = f w x (spare γ (s0 + 40) s0 w x (omega arith) hn) (λ j g. refl)

@@ -25,6 +25,7 @@ use Rattle.mid_code.specs.Code.{ConstO, OneO, TwoO, StepO, ApartO, PtrTestO, Nod
 use Rattle.mid_code.specs.Meaning.{Res}
 use Rattle.mid_code.specs.States.{temporaries, to, to_objects, spent, one_word, two_words, pointers_tested}
 use Rattle.mid_code.specs.States as mid
+use Rattle.lower_trees.specs.Pieces.{coded}
 use Rattle.lower_trees.specs.Shape.{Shape, shape_in}
 use Rattle.lower_trees.specs.Parts as low
 use Rattle.mid_lower.proofs.Grows.{Mid, Grows}
@@ -106,7 +107,7 @@ module _ (S : Site) where
         op S γ σ s0 span w x t q (pointers_tested i x.objs (x.temps a) (x.temps b)) (PtrTestO i t a b) c (spare γ (s0 + 32) (s0 + 8) w x (omega arith) h0) k.free_t (from_eq q (pointers_tested i x.objs va vb) (pointers_tested i x.objs (x.temps a) (x.temps b)) (tested_eq i x.objs va vb (x.temps a) (x.temps b) ea eb) al) refl go
         (λ v y hy at rest. f v y hy at (λ j nt nb nu. rest j nt))
 
-    words_sim : (x : Side) (o : BinOp) (t a b u : ℕ) (va vb : Cell) (c : NodesT ℕ) → Now γ (s0 + 32) w x → Four γ t a b u → x.temps a ≡ va → x.temps b ≡ vb → (go : Cell → σ.R) → Operates γ σ s0 w x t b u c go → σ.T (asked σ.stop span w (cell_binary o va vb) go) (R (low.with_word o t a b c) (mk w x))
+    words_sim : (x : Side) (o : BinOp) (t a b u : ℕ) (va vb : Cell) (c : NodesT ℕ) → Now γ (s0 + 32) w x → Four γ t a b u → x.temps a ≡ va → x.temps b ≡ vb → (go : Cell → σ.R) → Operates γ σ s0 w x t b u c go → σ.T (asked σ.stop span w (cell_binary o va vb) go) (R (coded (low.with_word o t a b) c) (mk w x))
     words_sim x bin.Mul t a b u va vb c h0 k ea eb go f = one_two x bin.Mul IMUL t a b u va vb c (same_words bin.Mul IMUL (λ i j. refl) va vb) h0 k ea eb go f
     words_sim x bin.Div t a b u va vb c h0 k ea eb go f = one_two x bin.Div IDIV t a b u va vb c (div_words va vb) h0 k ea eb go f
     words_sim x bin.Mod t a b u va vb c h0 k ea eb go f = one_two x bin.Mod IMOD t a b u va vb c (mod_words va vb) h0 k ea eb go f
@@ -127,8 +128,8 @@ module _ (S : Site) where
     words_sim x bin.OrElse t a b u va vb c h0 k ea eb go f =
         word γ σ span w x c va (λ i. then_ask (word_of vb) (λ j. Err Strays)) go (λ i ei. word γ σ span w x c vb (λ j. Err Strays) go (λ j ej. σ.stops (Stray span) w (R c (mk w x)) (R_grows c (mk w x))))
     words_sim x bin.Shr t a b u va vb c h0 k ea eb go f =
-        word γ σ span w x (low.with_word bin.Shr t a b c) va (λ i. then_ask (word_of vb) (λ j. then_ask (word_binary bin.Shr i j) (λ z. Ok (Num z)))) go (λ i ei.
-        word γ σ span w x (low.with_word bin.Shr t a b c) vb (λ j. then_ask (word_binary bin.Shr i j) (λ z. Ok (Num z))) go (λ j ej.
+        word γ σ span w x (coded (low.with_word bin.Shr t a b) c) va (λ i. then_ask (word_of vb) (λ j. then_ask (word_binary bin.Shr i j) (λ z. Ok (Num z)))) go (λ i ei.
+        word γ σ span w x (coded (low.with_word bin.Shr t a b) c) vb (λ j. then_ask (word_binary bin.Shr i j) (λ z. Ok (Num z))) go (λ j ej.
         sets S σ.T γ (s0 + 8) w x b (Num (negated j)) (OneO ISGN b b) (Do (TwoO SHL t a b) c) (spare γ (s0 + 32) (s0 + 8 + 8) w x (omega arith) h0) k.free_b (ap (λ u. to temporaries b (one_word ISGN u) (spent 8 (mk w x))) (eb ∙ ej)) (asked σ.stop span w (cell_binary bin.Shr (Num i) (Num j)) go) (λ y hy at rest.
         op S γ σ s0 span w y t (cell_binary bin.Shr (Num i) (Num j)) (two_words SHL (y.temps a) (y.temps b)) (TwoO SHL t a b) c hy k.free_t
         (same (cell_binary bin.Shr (Num i) (Num j)) (two_words SHL (y.temps a) (y.temps b)) (two_eq SHL (Num i) (Num (negated j)) (y.temps a) (y.temps b) (rest a k.a_b ∙ ea ∙ ei) at)) refl go
@@ -137,7 +138,7 @@ module _ (S : Site) where
     -- ---- pointers
 
     -- the word in b tells how many elements
-    elements_sim : (x : Side) (size t a b u i : ℕ) (va : Cell) (c : NodesT ℕ) → Now γ (s0 + 24) w x → Four γ t a b u → x.temps a ≡ va → x.temps b ≡ Num i → (go : Cell → σ.R) → Operates γ σ s0 w x t b u c go → σ.T (asked σ.stop span w (step va (mul i size)) go) (R (low.stepped size t a b u c) (mk w x))
+    elements_sim : (x : Side) (size t a b u i : ℕ) (va : Cell) (c : NodesT ℕ) → Now γ (s0 + 24) w x → Four γ t a b u → x.temps a ≡ va → x.temps b ≡ Num i → (go : Cell → σ.R) → Operates γ σ s0 w x t b u c go → σ.T (asked σ.stop span w (step va (mul i size)) go) (R (coded (low.stepped size t a b u) c) (mk w x))
     elements_sim x size t a b u i va c h0 k ea eb go f = by (size == 1) refl
       where
         short : σ.T (asked σ.stop span w (step va (mul i 1)) go) (R (Do (StepO t a b) c) (mk w x))
@@ -156,19 +157,19 @@ module _ (S : Site) where
         by true e = subst (λ n. σ.T (asked σ.stop span w (step va (mul i n)) go) (R (Do (StepO t a b) c) (mk w x))) (sym (eqb-true size 1 e)) short
         by false e = long
 
-    stepped_sim : (x : Side) (size t a b u : ℕ) (va vb : Cell) (c : NodesT ℕ) → Now γ (s0 + 32) w x → Four γ t a b u → x.temps a ≡ va → x.temps b ≡ vb → (go : Cell → σ.R) → Operates γ σ s0 w x t b u c go → σ.T (asked σ.stop span w (stepped size va vb) go) (R (low.stepped size t a b u c) (mk w x))
-    stepped_sim x size t a b u va vb c h0 k ea eb go f = word γ σ span w x (low.stepped size t a b u c) vb (λ i. step va (mul i size)) go (λ i ei. elements_sim x size t a b u i va c (spare γ (s0 + 32) (s0 + 24) w x (omega arith) h0) k ea (eb ∙ ei) go f)
+    stepped_sim : (x : Side) (size t a b u : ℕ) (va vb : Cell) (c : NodesT ℕ) → Now γ (s0 + 32) w x → Four γ t a b u → x.temps a ≡ va → x.temps b ≡ vb → (go : Cell → σ.R) → Operates γ σ s0 w x t b u c go → σ.T (asked σ.stop span w (stepped size va vb) go) (R (coded (low.stepped size t a b u) c) (mk w x))
+    stepped_sim x size t a b u va vb c h0 k ea eb go f = word γ σ span w x (coded (low.stepped size t a b u) c) vb (λ i. step va (mul i size)) go (λ i ei. elements_sim x size t a b u i va c (spare γ (s0 + 32) (s0 + 24) w x (omega arith) h0) k ea (eb ∙ ei) go f)
 
-    back_sim : (x : Side) (size t a b u : ℕ) (va vb : Cell) (c : NodesT ℕ) → Now γ (s0 + 32) w x → Four γ t a b u → x.temps a ≡ va → x.temps b ≡ vb → (go : Cell → σ.R) → Operates γ σ s0 w x t b u c go → σ.T (asked σ.stop span w (stepped_back size va vb) go) (R (low.stepped_back size t a b u c) (mk w x))
+    back_sim : (x : Side) (size t a b u : ℕ) (va vb : Cell) (c : NodesT ℕ) → Now γ (s0 + 32) w x → Four γ t a b u → x.temps a ≡ va → x.temps b ≡ vb → (go : Cell → σ.R) → Operates γ σ s0 w x t b u c go → σ.T (asked σ.stop span w (stepped_back size va vb) go) (R (coded (low.stepped_back size t a b u) c) (mk w x))
     back_sim x size t a b u va vb c h0 k ea eb go f =
-        word γ σ span w x (low.stepped_back size t a b u c) vb (λ i. step va (mul (negated i) size)) go (λ i ei.
-        sets S σ.T γ (s0 + 24) w x b (Num (negated i)) (OneO ISGN b b) (low.stepped size t a b u c) (spare γ (s0 + 32) (s0 + 24 + 8) w x (omega arith) h0) k.free_b (ap (λ u. to temporaries b (one_word ISGN u) (spent 8 (mk w x))) (eb ∙ ei)) (asked σ.stop span w (step va (mul (negated i) size)) go) (λ y hy at rest.
+        word γ σ span w x (coded (low.stepped_back size t a b u) c) vb (λ i. step va (mul (negated i) size)) go (λ i ei.
+        sets S σ.T γ (s0 + 24) w x b (Num (negated i)) (OneO ISGN b b) (coded (low.stepped size t a b u) c) (spare γ (s0 + 32) (s0 + 24 + 8) w x (omega arith) h0) k.free_b (ap (λ u. to temporaries b (one_word ISGN u) (spent 8 (mk w x))) (eb ∙ ei)) (asked σ.stop span w (step va (mul (negated i) size)) go) (λ y hy at rest.
         elements_sim y size t a b u (negated i) va c hy k (rest a k.a_b ∙ ea) at go (λ v d hd at2 rest2. f v d hd at2 (λ l nt nb nu. rest2 l nt nb nu ∙ rest l nb))))
 
-    distance_sim : (x : Side) (size t a b u : ℕ) (va vb : Cell) (c : NodesT ℕ) → Now γ (s0 + 32) w x → Four γ t a b u → x.temps a ≡ va → x.temps b ≡ vb → (go : Cell → σ.R) → Operates γ σ s0 w x t b u c go → σ.T (asked σ.stop span w (distance size w.store.objects va vb) go) (R (low.distant size t a b u c) (mk w x))
+    distance_sim : (x : Side) (size t a b u : ℕ) (va vb : Cell) (c : NodesT ℕ) → Now γ (s0 + 32) w x → Four γ t a b u → x.temps a ≡ va → x.temps b ≡ vb → (go : Cell → σ.R) → Operates γ σ s0 w x t b u c go → σ.T (asked σ.stop span w (distance size w.store.objects va vb) go) (R (coded (low.distant size t a b u) c) (mk w x))
     distance_sim x size t a b u va vb c h0 k ea eb go f =
         let numbers : Answer Cell = then_ask (apart w.store.objects va vb) (λ i. Ok (Num i)) in
-        subst (λ r. σ.T r (R (low.distant size t a b u c) (mk w x))) (sym (split (apart w.store.objects va vb)))
+        subst (λ r. σ.T r (R (coded (low.distant size t a b u) c) (mk w x))) (sym (split (apart w.store.objects va vb)))
         (op S γ σ (s0 + 16) span w x t numbers (mid.distance x.objs (x.temps a) (x.temps b)) (ApartO t a b) (Do (ConstO u size) (Do (TwoO IDIV t t u) c)) (spare γ (s0 + 32) (s0 + 16 + 8) w x (omega arith) h0) k.free_t
         (from_eq numbers (mid.distance x.objs va vb) (mid.distance x.objs (x.temps a) (x.temps b)) (ap (λ u. mid.distance x.objs u (x.temps b)) ea ∙ ap (λ u. mid.distance x.objs va u) eb) (then_both (apart w.store.objects va vb) (apart x.objs va vb) _ _ (apart_both w.store.objects x.objs va vb h0.stays.fit.under) (λ i. refl))) refl (λ z. asked σ.stop span w (cell_binary bin.Div z (Num size)) go)
         (λ z y hy at rest.
@@ -185,7 +186,7 @@ module _ (S : Site) where
     none_sim : (x : Side) (c : NodesT ℕ) (go : Cell → σ.R) → σ.T (asked σ.stop span w (Err Strays) go) (R c (mk w x))
     none_sim x c go = σ.stops (Stray span) w (R c (mk w x)) (R_grows c (mk w x))
 
-    pointers_sim : (x : Side) (o : BinOp) (size : ℕ) (two : Bool) (t a b u : ℕ) (va vb : Cell) (c : NodesT ℕ) → Now γ (s0 + 32) w x → Four γ t a b u → x.temps a ≡ va → x.temps b ≡ vb → (go : Cell → σ.R) → Operates γ σ s0 w x t b u c go → σ.T (asked σ.stop span w (pointer_operated o size two w.store.objects va vb) go) (R (low.with_pointer o size two t a b u c) (mk w x))
+    pointers_sim : (x : Side) (o : BinOp) (size : ℕ) (two : Bool) (t a b u : ℕ) (va vb : Cell) (c : NodesT ℕ) → Now γ (s0 + 32) w x → Four γ t a b u → x.temps a ≡ va → x.temps b ≡ vb → (go : Cell → σ.R) → Operates γ σ s0 w x t b u c go → σ.T (asked σ.stop span w (pointer_operated o size two w.store.objects va vb) go) (R (coded (low.with_pointer o size two t a b u) c) (mk w x))
     pointers_sim x bin.Add size two t a b u va vb c h0 k ea eb go f = stepped_sim x size t a b u va vb c h0 k ea eb go f
     pointers_sim x bin.Sub size true t a b u va vb c h0 k ea eb go f = distance_sim x size t a b u va vb c h0 k ea eb go f
     pointers_sim x bin.Sub size false t a b u va vb c h0 k ea eb go f = back_sim x size t a b u va vb c h0 k ea eb go f
@@ -206,13 +207,13 @@ module _ (S : Site) where
     pointers_sim x bin.AndAlso size two t a b u va vb c h0 k ea eb go f = none_sim x c go
     pointers_sim x bin.OrElse size two t a b u va vb c h0 k ea eb go f = none_sim x c go
 
-    operated_on_sim : (x : Side) (o : BinOp) (type : Option Ty) (two : Bool) (t a b u : ℕ) (va vb : Cell) (c : NodesT ℕ) → Now γ (s0 + 32) w x → Four γ t a b u → x.temps a ≡ va → x.temps b ≡ vb → (go : Cell → σ.R) → Operates γ σ s0 w x t b u c go → σ.T (asked σ.stop span w (operated_on S.s o type two w.store.objects va vb) go) (R (low.operated_on h o type two t a b u c) (mk w x))
+    operated_on_sim : (x : Side) (o : BinOp) (type : Option Ty) (two : Bool) (t a b u : ℕ) (va vb : Cell) (c : NodesT ℕ) → Now γ (s0 + 32) w x → Four γ t a b u → x.temps a ≡ va → x.temps b ≡ vb → (go : Cell → σ.R) → Operates γ σ s0 w x t b u c go → σ.T (asked σ.stop span w (operated_on S.s o type two w.store.objects va vb) go) (R (coded (low.operated_on h o type two t a b u) c) (mk w x))
     operated_on_sim x o None two t a b u va vb c h0 k ea eb go f = words_sim x o t a b u va vb c h0 k ea eb go f
     operated_on_sim x o (Some ty) two t a b u va vb c h0 k ea eb go f = pointers_sim x o (words S.s ty) two t a b u va vb c h0 k ea eb go f
 
     -- an operator on the cells in a and b
-    pub operates : (x : Side) (o : BinOp) (ta tb : Ty) (t a b u : ℕ) (va vb : Cell) (c : NodesT ℕ) → Now γ (s0 + 32) w x → Four γ t a b u → x.temps a ≡ va → x.temps b ≡ vb → (go : Cell → σ.R) → Operates γ σ s0 w x t b u c go → σ.T (asked σ.stop span w (operated S.s o ta tb w.store.objects va vb) go) (R (low.operated h o ta tb t a b u c) (mk w x))
+    pub operates : (x : Side) (o : BinOp) (ta tb : Ty) (t a b u : ℕ) (va vb : Cell) (c : NodesT ℕ) → Now γ (s0 + 32) w x → Four γ t a b u → x.temps a ≡ va → x.temps b ≡ vb → (go : Cell → σ.R) → Operates γ σ s0 w x t b u c go → σ.T (asked σ.stop span w (operated S.s o ta tb w.store.objects va vb) go) (R (coded (low.operated h o ta tb t a b u) c) (mk w x))
     operates x o ta tb = operated_on_sim x o (pointed (decayed ta)) (is_pointer (decayed tb))
 
-    pub steps : (x : Side) (size t a b u : ℕ) (va vb : Cell) (c : NodesT ℕ) → Now γ (s0 + 32) w x → Four γ t a b u → x.temps a ≡ va → x.temps b ≡ vb → (go : Cell → σ.R) → Operates γ σ s0 w x t b u c go → σ.T (asked σ.stop span w (stepped size va vb) go) (R (low.stepped size t a b u c) (mk w x))
+    pub steps : (x : Side) (size t a b u : ℕ) (va vb : Cell) (c : NodesT ℕ) → Now γ (s0 + 32) w x → Four γ t a b u → x.temps a ≡ va → x.temps b ≡ vb → (go : Cell → σ.R) → Operates γ σ s0 w x t b u c go → σ.T (asked σ.stop span w (stepped size va vb) go) (R (coded (low.stepped size t a b u) c) (mk w x))
     steps = stepped_sim

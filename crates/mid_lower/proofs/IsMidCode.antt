@@ -28,10 +28,11 @@ use Rattle.mid_code.specs.Code.{Stop, FunctionT}
 use Rattle.mid_code.specs.Invariants as mid
 use Rattle.mid_code.specs.Invariants.{IsMid, IsTemporary, AllOf, DifferFrom, AreDifferent, CallsNone, parameter_count}
 use Rattle.lower_trees.specs.Shape.{Shape, shape, words, literal_words}
+use Rattle.lower_trees.specs.Pieces.{coded}
 use Rattle.lower_trees.specs.Parts.{from, to, result_at, param_at, first_param}
-use Rattle.lower_trees.specs.Counts.{stmts_temps, vars_temps, one_size, stmts_sizes, vars_sizes}
 use Rattle.lower_trees.specs.Statements.{ToEnd, low_stmts}
-use Rattle.lower_trees.specs.Lowered.{args_from, with_result, received, all_received, first_of, low_function, low_start, lowered}
+use Rattle.lower_trees.specs.Lowered.{args_from, with_result, received, all_received, first_of, lowered, low_function, low_start}
+use Rattle.lower_trees.specs.Counts.{stmts_temps, vars_temps, one_size, stmts_sizes, vars_sizes}
 use Rattle.mid_lower.proofs.ProgramsListed.{inits_nodes}
 use Rattle.mid_lower.proofs.Kept.{Site, Good, Keeps, good_stop, both, alone, none, either_kept, block_kept, fixed, k_move, k_local, k_store, words_small, copied_kept, made_kept}
 use Rattle.mid_lower.proofs.KeptExpressions.{Linked}
@@ -106,12 +107,12 @@ with_result_differ false tys = args_differ 16 tys
 param_small : (s : Site) (k : ℕ) → param_at k < s.temps
 param_small s k = grind (arith, nat_tests, s.wide)
 
-received_kept : {ls : List Bool} (s : Site) (h : Shape) (ty : Ty) (k a : ℕ) → k < s.locals → a < s.temps → Keeps s ls (received h ty k a)
+received_kept : {ls : List Bool} (s : Site) (h : Shape) (ty : Ty) (k a : ℕ) → k < s.locals → a < s.temps → Keeps s ls (coded (received h ty k a))
 received_kept s h ty k a lk la =
     either_kept (is_structure ty) (both (k_move from a (fixed s 3 (omega arith)) la) (both (k_local to k (fixed s 4 (omega arith)) lk) (copied_kept s (words h ty) (words_small h ty))))
     (both (k_local (param_at k) k (param_small s k) lk) (k_store (param_at k) a (param_small s k) la))
 
-all_received_kept : {ls : List Bool} (s : Site) (h : Shape) (tys : List Ty) (k a : ℕ) → k + length tys ≤ s.locals → a + length tys ≤ s.temps → Keeps s ls (all_received h tys k a)
+all_received_kept : {ls : List Bool} (s : Site) (h : Shape) (tys : List Ty) (k a : ℕ) → k + length tys ≤ s.locals → a + length tys ≤ s.temps → Keeps s ls (coded (all_received h tys k a))
 all_received_kept s h [] k a lk la = none
 all_received_kept s h (ty ∷ tys) k a lk la = both (received_kept s h ty k a (omega (arith, lk)) (omega (arith, la))) (all_received_kept s h tys (k + 1) (a + 1) (omega (arith, lk)) (omega (arith, la)))
 
@@ -237,7 +238,7 @@ main_is p e = calls_are p p.main ∙ go (slice_get p.functions p.main) e
 
 -- the statements that fill the globals, one after the other
 start_good : (p : ProgramT) → Known p → (s : Site) → s.code ≡ lowered p → (inits : List TStmtT) → FillGlobals (scene p) inits → FillInWords inits → (n m : ℕ) → n + stmts_temps (tstmts inits) ≤ s.temps → m + length (stmts_sizes (shape p) (tstmts inits)) ≤ s.locals
-    → Good s [] (low_stmts (shape p) VoidY (tstmts inits) n m 0 (ToEnd 0) Stop)
+    → Good s [] (coded (low_stmts (shape p) VoidY (tstmts inits) n m 0 (ToEnd 0)) Stop)
 start_good p known s code [] is w n m ln lm = good_stop s []
 start_good p known s code (VarsZ vars ∷ rest) is w n m ln lm =
     let link = linked p known s code [] (omega arith) in
@@ -256,7 +257,7 @@ start_good p known s code (ReturnZ x ∷ rest) is w n m ln lm = absurd is.0
 start_good p known s code (BreakZ ∷ rest) is w n m ln lm = absurd is.0
 start_good p known s code (ContinueZ ∷ rest) is w n m ln lm = absurd is.0
 
-start_silent : (p : ProgramT) → (inits : List TStmtT) → FillGlobals (scene p) inits → list_all gives_globals inits ≡ true → (n m : ℕ) → CallsNone (low_stmts (shape p) VoidY (tstmts inits) n m 0 (ToEnd 0) Stop)
+start_silent : (p : ProgramT) → (inits : List TStmtT) → FillGlobals (scene p) inits → list_all gives_globals inits ≡ true → (n m : ℕ) → CallsNone (coded (low_stmts (shape p) VoidY (tstmts inits) n m 0 (ToEnd 0)) Stop)
 start_silent p [] is e n m = tt
 start_silent p (VarsZ vars ∷ rest) is e n m =
     let first = vars_quiet (scene p) (shape p) true vars is.0 (and_first (gives_globals (VarsZ vars)) (list_all gives_globals rest) e) n m in

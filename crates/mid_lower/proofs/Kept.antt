@@ -12,7 +12,8 @@ use Rattle.v32_isa.specs.declared.instruction.Two.TheVariants.{IEQ, INE, IGT, IG
 use Rattle.mid_code.specs.Code.{OpT, ConstO, NullO, MoveO, OneO, TwoO, LocalO, StepO, ApartO, PtrTestO, LoadO, StoreO, FreshO, NodesT, Stop, Do, Call, Choose, Block, Loop, Leave, Again, Return, CodeT, uses, target, maybe}
 use Rattle.mid_code.specs.Invariants.{IsOne, IsTest, IsOp, IsCall, IsLoop, AreNodes, AllOf, Names}
 use Rattle.lower_trees.specs.Shape.{Shape, words}
-use Rattle.lower_trees.specs.Parts.{Nodes, count, one, cell, from, to, other, copy_turn, zero_turn, copied, zeroed, moved_by, structure_read, as_flag, converted, stored, with_word, stepped, with_pointer, operated_on, operated, one_more, one_less, tested_as, negated_as, made}
+use Rattle.lower_trees.specs.Pieces.{Nodes, coded}
+use Rattle.lower_trees.specs.Parts.{count, one, cell, from, to, other, copy_turn, zero_turn, copied, zeroed, moved_by, structure_read, as_flag, converted, stored, with_word, stepped, with_pointer, operated_on, operated, one_more, one_less, tested_as, negated_as, made}
 
 -- a function of a program: its locals and its temporaries, which are sixteen at least
 pub record Site : Type 0 where
@@ -111,7 +112,7 @@ k_store p a lp la = op_kept (StoreO p a) tt (lp, (la, tt)) tt
 
 -- ---- loops over cells
 
-copy_turn_good : (s : Site) (ls : List Bool) → Good s (true ∷ ls) copy_turn
+copy_turn_good : (s : Site) (ls : List Bool) → Good s (true ∷ ls) (coded copy_turn Stop)
 copy_turn_good s ls =
     let f = λ (k : ℕ) (lt : k < 16). fixed s k lt in
     alone (both (k_load cell from (f 2 (omega arith)) (f 3 (omega arith))) (both (k_store to cell (f 4 (omega arith)) (f 2 (omega arith)))
@@ -120,7 +121,7 @@ copy_turn_good s ls =
     (alone (both (k_step from from one (f 3 (omega arith)) (f 3 (omega arith)) (f 1 (omega arith))) (both (k_step to to one (f 4 (omega arith)) (f 4 (omega arith)) (f 1 (omega arith))) (again_kept {s = s} {ls = true ∷ ls} 0 refl))))
     (good_stop s (true ∷ ls))))))
 
-zero_turn_good : (s : Site) (ls : List Bool) → Good s (true ∷ ls) zero_turn
+zero_turn_good : (s : Site) (ls : List Bool) → Good s (true ∷ ls) (coded zero_turn Stop)
 zero_turn_good s ls =
     let f = λ (k : ℕ) (lt : k < 16). fixed s k lt in
     alone (both (k_store to cell (f 4 (omega arith)) (f 2 (omega arith)))
@@ -129,12 +130,12 @@ zero_turn_good s ls =
     (alone (both (k_step to to one (f 4 (omega arith)) (f 4 (omega arith)) (f 1 (omega arith))) (again_kept {s = s} {ls = true ∷ ls} 0 refl)))
     (good_stop s (true ∷ ls)))))
 
-pub copied_kept : {ls : List Bool} (s : Site) (size : ℕ) → size < 2 ^ 32 → Keeps s ls (copied size)
+pub copied_kept : {ls : List Bool} (s : Site) (size : ℕ) → size < 2 ^ 32 → Keeps s ls (coded (copied size))
 copied_kept s zero small = none
 copied_kept {ls} s (suc left) small =
     both (k_const count (suc left) (fixed s 0 (omega arith)) small) (both (k_const one 1 (fixed s 1 (omega arith)) (omega arith)) (loop_kept (copy_turn_good s ls)))
 
-pub zeroed_kept : {ls : List Bool} (s : Site) (size : ℕ) → size < 2 ^ 32 → Keeps s ls (zeroed size)
+pub zeroed_kept : {ls : List Bool} (s : Site) (size : ℕ) → size < 2 ^ 32 → Keeps s ls (coded (zeroed size))
 zeroed_kept s zero small = none
 zeroed_kept {ls} s (suc left) small =
     both (k_const count (suc left) (fixed s 0 (omega arith)) small) (both (k_const one 1 (fixed s 1 (omega arith)) (omega arith))
@@ -145,18 +146,18 @@ zeroed_kept {ls} s (suc left) small =
 pub words_small : (h : Shape) (ty : Ty) → words h ty < 2 ^ 32
 words_small h ty = mod-lt _ (omega arith)
 
-pub moved_by_kept : {s : Site} {ls : List Bool} (t p offset : ℕ) → t < s.temps → p < s.temps → offset < 2 ^ 32 → Keeps s ls (moved_by t p offset)
+pub moved_by_kept : {s : Site} {ls : List Bool} (t p offset : ℕ) → t < s.temps → p < s.temps → offset < 2 ^ 32 → Keeps s ls (coded (moved_by t p offset))
 moved_by_kept t p offset lt lp small = both (k_const t offset lt small) (k_step t p t lt lp lt)
 
-pub structure_read_kept : {ls : List Bool} (s : Site) (size k t : ℕ) → size < 2 ^ 32 → k < s.locals → t < s.temps → Keeps s ls (structure_read size k t)
+pub structure_read_kept : {ls : List Bool} (s : Site) (size k t : ℕ) → size < 2 ^ 32 → k < s.locals → t < s.temps → Keeps s ls (coded (structure_read size k t))
 structure_read_kept s size k t small lk lt =
     both (k_fresh k lk) (both (k_move from t (fixed s 3 (omega arith)) lt) (both (k_local to k (fixed s 4 (omega arith)) lk) (both (copied_kept s size small) (k_local t k lt lk))))
 
-pub as_flag_kept : {s : Site} {ls : List Bool} (known : Bool) (t : ℕ) → t < s.temps → Keeps s ls (as_flag known t)
+pub as_flag_kept : {s : Site} {ls : List Bool} (known : Bool) (t : ℕ) → t < s.temps → Keeps s ls (coded (as_flag known t))
 as_flag_kept true t lt = none
 as_flag_kept false t lt = k_one CIB t t tt lt lt
 
-pub converted_kept : {s : Site} {ls : List Bool} (ty : Ty) (known : Bool) (t : ℕ) → t < s.temps → Keeps s ls (converted ty known t)
+pub converted_kept : {s : Site} {ls : List Bool} (ty : Ty) (known : Bool) (t : ℕ) → t < s.temps → Keeps s ls (coded (converted ty known t))
 converted_kept BoolY known t lt = as_flag_kept known t lt
 converted_kept VoidY known t lt = none
 converted_kept IntY known t lt = none
@@ -166,13 +167,13 @@ converted_kept (UnionY k) known t lt = none
 converted_kept (PointerY of) known t lt = none
 converted_kept (ArrayY of len) known t lt = none
 
-pub stored_kept : {ls : List Bool} (s : Site) (h : Shape) (ty : Ty) (p a : ℕ) → p < s.temps → a < s.temps → Keeps s ls (stored h ty p a)
+pub stored_kept : {ls : List Bool} (s : Site) (h : Shape) (ty : Ty) (p a : ℕ) → p < s.temps → a < s.temps → Keeps s ls (coded (stored h ty p a))
 stored_kept s h ty p a lp la =
     either_kept (is_structure ty) (both (k_move from a (fixed s 3 (omega arith)) la) (both (k_move to p (fixed s 4 (omega arith)) lp) (copied_kept s (words h ty) (words_small h ty)))) (k_store p a lp la)
 
 -- ---- operators
 
-with_word_kept : {s : Site} {ls : List Bool} (op : BinOp) (t a b : ℕ) → t < s.temps → a < s.temps → b < s.temps → Keeps s ls (with_word op t a b)
+with_word_kept : {s : Site} {ls : List Bool} (op : BinOp) (t a b : ℕ) → t < s.temps → a < s.temps → b < s.temps → Keeps s ls (coded (with_word op t a b))
 with_word_kept bin.Mul t a b lt la lb = k_two IMUL t a b lt la lb
 with_word_kept bin.Div t a b lt la lb = k_two IDIV t a b lt la lb
 with_word_kept bin.Mod t a b lt la lb = k_two IMOD t a b lt la lb
@@ -192,11 +193,11 @@ with_word_kept bin.BitOr t a b lt la lb = k_two OR t a b lt la lb
 with_word_kept bin.AndAlso t a b lt la lb = none
 with_word_kept bin.OrElse t a b lt la lb = none
 
-pub stepped_kept : {s : Site} {ls : List Bool} (size t a b u : ℕ) → size < 2 ^ 32 → t < s.temps → a < s.temps → b < s.temps → u < s.temps → Keeps s ls (stepped size t a b u)
+pub stepped_kept : {s : Site} {ls : List Bool} (size t a b u : ℕ) → size < 2 ^ 32 → t < s.temps → a < s.temps → b < s.temps → u < s.temps → Keeps s ls (coded (stepped size t a b u))
 stepped_kept size t a b u small lt la lb lu =
     either_kept (size == 1) (k_step t a b lt la lb) (both (k_const u size lu small) (both (k_two IMUL b b u lb lb lu) (k_step t a b lt la lb)))
 
-with_pointer_kept : {s : Site} {ls : List Bool} (op : BinOp) (size : ℕ) (pointers : Bool) (t a b u : ℕ) → size < 2 ^ 32 → t < s.temps → a < s.temps → b < s.temps → u < s.temps → Keeps s ls (with_pointer op size pointers t a b u)
+with_pointer_kept : {s : Site} {ls : List Bool} (op : BinOp) (size : ℕ) (pointers : Bool) (t a b u : ℕ) → size < 2 ^ 32 → t < s.temps → a < s.temps → b < s.temps → u < s.temps → Keeps s ls (coded (with_pointer op size pointers t a b u))
 with_pointer_kept bin.Mul size ps t a b u small lt la lb lu = none
 with_pointer_kept bin.Div size ps t a b u small lt la lb lu = none
 with_pointer_kept bin.Mod size ps t a b u small lt la lb lu = none
@@ -218,24 +219,24 @@ with_pointer_kept bin.BitOr size ps t a b u small lt la lb lu = none
 with_pointer_kept bin.AndAlso size ps t a b u small lt la lb lu = none
 with_pointer_kept bin.OrElse size ps t a b u small lt la lb lu = none
 
-operated_on_kept : {s : Site} {ls : List Bool} (h : Shape) (op : BinOp) (ty : Option Ty) (ps : Bool) (t a b u : ℕ) → t < s.temps → a < s.temps → b < s.temps → u < s.temps → Keeps s ls (operated_on h op ty ps t a b u)
+operated_on_kept : {s : Site} {ls : List Bool} (h : Shape) (op : BinOp) (ty : Option Ty) (ps : Bool) (t a b u : ℕ) → t < s.temps → a < s.temps → b < s.temps → u < s.temps → Keeps s ls (coded (operated_on h op ty ps t a b u))
 operated_on_kept h op None ps t a b u lt la lb lu = with_word_kept op t a b lt la lb
 operated_on_kept h op (Some ty) ps t a b u lt la lb lu = with_pointer_kept op (words h ty) ps t a b u (words_small h ty) lt la lb lu
 
-pub operated_kept : {s : Site} {ls : List Bool} (h : Shape) (op : BinOp) (ta tb : Ty) (t a b u : ℕ) → t < s.temps → a < s.temps → b < s.temps → u < s.temps → Keeps s ls (operated h op ta tb t a b u)
+pub operated_kept : {s : Site} {ls : List Bool} (h : Shape) (op : BinOp) (ta tb : Ty) (t a b u : ℕ) → t < s.temps → a < s.temps → b < s.temps → u < s.temps → Keeps s ls (coded (operated h op ta tb t a b u))
 operated_kept h op ta tb t a b u lt la lb lu = operated_on_kept h op (pointed (decayed ta)) (is_pointer (decayed tb)) t a b u lt la lb lu
 
-pub one_more_kept : {s : Site} {ls : List Bool} (h : Shape) (ty : Option Ty) (t a u : ℕ) → t < s.temps → a < s.temps → u < s.temps → Keeps s ls (one_more h ty t a u)
+pub one_more_kept : {s : Site} {ls : List Bool} (h : Shape) (ty : Option Ty) (t a u : ℕ) → t < s.temps → a < s.temps → u < s.temps → Keeps s ls (coded (one_more h ty t a u))
 one_more_kept h None t a u lt la lu = both (k_const u 1 lu (omega arith)) (k_two IADD t a u lt la lu)
 one_more_kept h (Some ty) t a u lt la lu = both (k_const u (words h ty) lu (words_small h ty)) (k_step t a u lt la lu)
 
-pub one_less_kept : {s : Site} {ls : List Bool} (h : Shape) (ty : Option Ty) (t a u : ℕ) → t < s.temps → a < s.temps → u < s.temps → Keeps s ls (one_less h ty t a u)
+pub one_less_kept : {s : Site} {ls : List Bool} (h : Shape) (ty : Option Ty) (t a u : ℕ) → t < s.temps → a < s.temps → u < s.temps → Keeps s ls (coded (one_less h ty t a u))
 one_less_kept h None t a u lt la lu = both (k_const u 1 lu (omega arith)) (k_two ISUB t a u lt la lu)
 one_less_kept h (Some ty) t a u lt la lu = both (k_const u (words h ty) lu (words_small h ty)) (both (k_one ISGN u u tt lu lu) (k_step t a u lt la lu))
 
 -- ---- conditions and locals
 
-pub tested_as_kept : {ls : List Bool} (s : Site) (ty : Ty) (t : ℕ) → t < s.temps → Keeps s ls (tested_as ty t)
+pub tested_as_kept : {ls : List Bool} (s : Site) (ty : Ty) (t : ℕ) → t < s.temps → Keeps s ls (coded (tested_as ty t))
 tested_as_kept s VoidY t lt = none
 tested_as_kept s IntY t lt = none
 tested_as_kept s BoolY t lt = none
@@ -245,7 +246,7 @@ tested_as_kept s (UnionY k) t lt = none
 tested_as_kept s (PointerY of) t lt = both (k_null other (fixed s 5 (omega arith))) (k_test INE t t other tt lt lt (fixed s 5 (omega arith)))
 tested_as_kept s (ArrayY of len) t lt = none
 
-pub negated_as_kept : {ls : List Bool} (s : Site) (ty : Ty) (t : ℕ) → t < s.temps → Keeps s ls (negated_as ty t)
+pub negated_as_kept : {ls : List Bool} (s : Site) (ty : Ty) (t : ℕ) → t < s.temps → Keeps s ls (coded (negated_as ty t))
 negated_as_kept s VoidY t lt = k_one BNOT t t tt lt lt
 negated_as_kept s IntY t lt = k_one BNOT t t tt lt lt
 negated_as_kept s BoolY t lt = k_one BNOT t t tt lt lt
@@ -255,6 +256,6 @@ negated_as_kept s (UnionY k) t lt = k_one BNOT t t tt lt lt
 negated_as_kept s (PointerY of) t lt = both (k_null other (fixed s 5 (omega arith))) (k_test IEQ t t other tt lt lt (fixed s 5 (omega arith)))
 negated_as_kept s (ArrayY of len) t lt = k_one BNOT t t tt lt lt
 
-pub made_kept : {ls : List Bool} (s : Site) (ks : List ℕ) → AllOf (λ k. k < s.locals) ks → Keeps s ls (made ks)
+pub made_kept : {ls : List Bool} (s : Site) (ks : List ℕ) → AllOf (λ k. k < s.locals) ks → Keeps s ls (coded (made ks))
 made_kept s [] all = none
 made_kept s (k ∷ ks) all = both (k_fresh k all.0) (made_kept s ks all.1)

@@ -21,10 +21,11 @@ use Rattle.mid_code.specs.Code.{LiteralO, GlobalO, InO, OutO, WaitO, HaltO, Card
 use Rattle.mid_code.specs.Invariants.{AllOf, parameter_count}
 use Rattle.lower_trees.specs.Shape.{Shape, words, literal_words, params_of, result_of}
 use Rattle.lower_trees.specs.Flags.{is_flag, tests_flag}
+use Rattle.lower_trees.specs.Pieces.{coded}
 use Rattle.lower_trees.specs.Parts.{as_flag, stepped, operated, result_at, first_param}
-use Rattle.lower_trees.specs.Counts.{with_place, unary_temps, size_temps, temps, temps_of, temps_all, value_temps, one_size, read_sizes, with_read, unary_sizes, sizes, sizes_of, sizes_all, value_sizes}
-use Rattle.lower_trees.specs.Expressions.{Low, value_of, value, test, unary, binary, assign, step_made, stepped_to, step_taken, member_of, called, spots, converted_to, later_types, second, beyond, size_at, behind_place, low, low_kind, low_args, low_value, low_test}
+use Rattle.lower_trees.specs.Expressions.{Low, value_of, value, test, unary, binary, assign, step_made, stepped_to, step_taken, member_of, called, spots, converted_to, later_types, second, beyond, size_at, behind_place, low, low_kind, low_args, low_value, low_test, counts_up}
 use Rattle.lower_trees.specs.Lowered.{args_from, with_result}
+use Rattle.lower_trees.specs.Counts.{with_place, unary_temps, size_temps, temps, temps_of, temps_all, value_temps, one_size, read_sizes, with_read, unary_sizes, sizes, sizes_of, sizes_all, value_sizes}
 use Rattle.mid_lower.proofs.Kept.{Site, Good, Keeps, both, alone, none, either_kept, op_kept, call_kept, choose_kept, k_const, k_null, k_one, k_local, k_fresh, k_load, k_step, k_store, words_small, moved_by_kept, structure_read_kept, as_flag_kept, converted_kept, stored_kept, stepped_kept, operated_kept, one_more_kept, one_less_kept, tested_as_kept, negated_as_kept}
 
 -- the code of a program, and what its trees name
@@ -38,7 +39,7 @@ pub record Linked (s : Site) (z : Scene) (h : Shape) : Type 0 where
 
 -- a tree that has so many temporaries of its own, and makes so many locals
 pub record Part (s : Site) (of : Low) (own made : ℕ) : Type 0 where
-  pub at : (ls : List Bool) (t n m : ℕ) → t < s.temps → n + own ≤ s.temps → m + made ≤ s.locals → Keeps s ls (of t n m)
+  pub at : (ls : List Bool) (t n m : ℕ) → t < s.temps → n + own ≤ s.temps → m + made ≤ s.locals → Keeps s ls (coded (of t n m))
 
 pub there : {A B : Type 0} (g : A → B) (xs : List A) (k : ℕ) (y : B) → option_map g (slice_get xs k) ≡ Some y → k < length xs
 there g [] k y e = cc
@@ -52,7 +53,7 @@ same_option (Some k) = refl
 -- ---- values
 
 value_of_kept : {of : Low} {own : ℕ} (s : Site) (h : Shape) (place : Bool) (ty : Ty) (ws : List ℕ) → Part s of own (length ws) → (ls : List Bool) (t n m : ℕ)
-    → t < s.temps → n + with_place place ty own ≤ s.temps → m + length (ws ++ read_sizes h place ty) ≤ s.locals → Keeps s ls (value_of h place ty (m + length ws) of t n m)
+    → t < s.temps → n + with_place place ty own ≤ s.temps → m + length (ws ++ read_sizes h place ty) ≤ s.locals → Keeps s ls (coded (value_of h place ty (m + length ws) of t n m))
 value_of_kept s h false ty ws p ls t n m lt ln lm = p.at ls t n m lt ln (omega (arith, length-append ws []))
 value_of_kept s h true VoidY ws p ls t n m lt ln lm = p.at ls t n m lt ln (omega (arith, length-append ws []))
 value_of_kept s h true IntY ws p ls t n m lt ln lm = both (p.at ls n (n + 1) m (omega arith) (omega arith) (omega (arith, length-append ws []))) (k_load t n lt (omega arith))
@@ -87,7 +88,7 @@ abbrev two_sizes : Shape → TExprT → TExprT → List ℕ
 two_sizes h x y = with_read h x (sizes h x) ++ with_read h y (sizes h y)
 
 last_good : {of : Low} (s : Site) (h : Shape) (x y : TExprT) → Part s of (temps y) (length (sizes h y)) → (ls : List Bool) (t n m : ℕ) → t < s.temps → n + (value_temps x + value_temps y + 3) ≤ s.temps
-    → m + length (two_sizes h x y) ≤ s.locals → Good s ls (test h y of t (second x n) (beyond h x m) (as_flag (tests_flag y) t Stop))
+    → m + length (two_sizes h x y) ≤ s.locals → Good s ls (coded (test h y of t (second x n) (beyond h x m)) (coded (as_flag (tests_flag y) t) Stop))
 last_good s h x y q ls t n m lt ln lm =
     let v = test_kept s h y q in
     let more = length-append (value_sizes h x) (value_sizes h y) in
@@ -95,7 +96,7 @@ last_good s h x y q ls t n m lt ln lm =
 
 both_kept : {f g : Low} (s : Site) (h : Shape) (op : BinOp) (x y : TExprT) → Part s f (temps x) (length (sizes h x)) → Part s g (temps y) (length (sizes h y)) → (ls : List Bool) (t n m : ℕ)
     → t < s.temps → n + (value_temps x + value_temps y + 3) ≤ s.temps → m + length (two_sizes h x y) ≤ s.locals
-    → Keeps s ls (λ c. value h x f n (n + 1) m (value h y g (second x n) (second x n + 1) (beyond h x m) (operated h op (type_of x) (type_of y) t n (second x n) (size_at x y n) c)))
+    → Keeps s ls (λ c. coded (value h x f n (n + 1) m) (coded (value h y g (second x n) (second x n + 1) (beyond h x m)) (coded (operated h op (type_of x) (type_of y) t n (second x n) (size_at x y n)) c)))
 both_kept s h op x y p q ls t n m lt ln lm =
     let v = value_kept s h x p in
     let w = value_kept s h y q in
@@ -105,7 +106,7 @@ both_kept s h op x y p q ls t n m lt ln lm =
     (operated_kept h op (type_of x) (type_of y) t n (second x n) (size_at x y n) lt (omega arith) (omega arith) (omega arith)))
 
 binary_at : {f g : Low} (s : Site) (h : Shape) (op : BinOp) (x y : TExprT) → Part s f (temps x) (length (sizes h x)) → Part s g (temps y) (length (sizes h y)) → (ls : List Bool) (t n m : ℕ)
-    → t < s.temps → n + (value_temps x + value_temps y + 3) ≤ s.temps → m + length (two_sizes h x y) ≤ s.locals → Keeps s ls (binary h op x y f g t n m)
+    → t < s.temps → n + (value_temps x + value_temps y + 3) ≤ s.temps → m + length (two_sizes h x y) ≤ s.locals → Keeps s ls (coded (binary h op x y f g t n m))
 binary_at s h bin.AndAlso x y p q ls t n m lt ln lm =
     let v = test_kept s h x p in
     let more = length-append (value_sizes h x) (value_sizes h y) in
@@ -134,7 +135,7 @@ binary_at s h bin.BitOr x y p q ls t n m lt ln lm = both_kept s h bin.BitOr x y 
 -- ---- assignments and steps
 
 assign_at : {f g : Low} (s : Site) (h : Shape) (op : Option BinOp) (x y : TExprT) → Part s f (temps x) (length (sizes h x)) → Part s g (temps y) (length (sizes h y)) → (ls : List Bool) (t n m : ℕ)
-    → t < s.temps → n + (temps x + value_temps y + 3) ≤ s.temps → m + length (sizes h x ++ value_sizes h y) ≤ s.locals → Keeps s ls (assign h op x y f g t n m)
+    → t < s.temps → n + (temps x + value_temps y + 3) ≤ s.temps → m + length (sizes h x ++ value_sizes h y) ≤ s.locals → Keeps s ls (coded (assign h op x y f g t n m))
 assign_at s h None x y p q ls t n m lt ln lm =
     let w = value_kept s h y q in
     let more = length-append (sizes h x) (value_sizes h y) in
@@ -150,17 +151,17 @@ assign_at s h (Some op) x y p q ls t n m lt ln lm =
     (both (operated_kept h op (type_of x) (type_of y) t t (behind_place x n) (behind_place x n + 1) lt lt (omega arith) (omega arith))
     (both (converted_kept (type_of x) false t lt) (k_store n t (omega arith) lt)))))
 
-made_step : {s : Site} {ls : List Bool} (h : Shape) (op : StepOp) (ty : Ty) (new old by : ℕ) → new < s.temps → old < s.temps → by < s.temps → Keeps s ls (step_made h op ty new old by)
+made_step : {s : Site} {ls : List Bool} (h : Shape) (op : StepOp) (ty : Ty) (new old by : ℕ) → new < s.temps → old < s.temps → by < s.temps → Keeps s ls (coded (step_made h (counts_up op) ty new old by))
 made_step h PreUp ty new old by ln lo lb = one_more_kept h (pointed (decayed ty)) new old by ln lo lb
 made_step h PostUp ty new old by ln lo lb = one_more_kept h (pointed (decayed ty)) new old by ln lo lb
 made_step h PreDown ty new old by ln lo lb = one_less_kept h (pointed (decayed ty)) new old by ln lo lb
 made_step h PostDown ty new old by ln lo lb = one_less_kept h (pointed (decayed ty)) new old by ln lo lb
 
-step_to : {s : Site} {ls : List Bool} (h : Shape) (op : StepOp) (x : TExprT) (new old n : ℕ) → new < s.temps → old < s.temps → n + 1 < s.temps → Keeps s ls (stepped_to h op x new old n)
+step_to : {s : Site} {ls : List Bool} (h : Shape) (op : StepOp) (x : TExprT) (new old n : ℕ) → new < s.temps → old < s.temps → n + 1 < s.temps → Keeps s ls (coded (stepped_to h (counts_up op) (type_of x) new old n))
 step_to h op x new old n ln lo lb = both (k_load old n lo (omega (arith, lb))) (both (made_step h op (type_of x) new old (n + 1) ln lo lb) (both (converted_kept (type_of x) false new ln) (k_store n new (omega (arith, lb)) ln)))
 
 step_at : {f : Low} (s : Site) (h : Shape) (op : StepOp) (x : TExprT) → Part s f (temps x) (length (sizes h x)) → (ls : List Bool) (t n m : ℕ)
-    → t < s.temps → n + (temps x + 2) ≤ s.temps → m + length (sizes h x) ≤ s.locals → Keeps s ls (step_taken h op x f t n m)
+    → t < s.temps → n + (temps x + 2) ≤ s.temps → m + length (sizes h x) ≤ s.locals → Keeps s ls (coded (step_taken h op x f t n m))
 step_at s h PreUp x p ls t n m lt ln lm = both (p.at ls n (n + 2) m (omega arith) (omega arith) lm) (step_to h PreUp x t t n lt lt (omega arith))
 step_at s h PreDown x p ls t n m lt ln lm = both (p.at ls n (n + 2) m (omega arith) (omega arith) lm) (step_to h PreDown x t t n lt lt (omega arith))
 step_at s h PostUp x p ls t n m lt ln lm = both (p.at ls n (n + 2) m (omega arith) (omega arith) lm) (step_to h PostUp x (n + 1) t n (omega arith) lt (omega arith))
@@ -169,7 +170,7 @@ step_at s h PostDown x p ls t n m lt ln lm = both (p.at ls n (n + 2) m (omega ar
 -- ---- elements, members and calls
 
 -- the size of an element comes to a temporary that is there unless it is a scalar
-element_kept : {s : Site} {ls : List Bool} (h : Shape) (ty : Ty) (t a b u : ℕ) → t < s.temps → a < s.temps → b < s.temps → u + size_temps ty ≤ s.temps → Keeps s ls (stepped (words h ty) t a b u)
+element_kept : {s : Site} {ls : List Bool} (h : Shape) (ty : Ty) (t a b u : ℕ) → t < s.temps → a < s.temps → b < s.temps → u + size_temps ty ≤ s.temps → Keeps s ls (coded (stepped (words h ty) t a b u))
 element_kept h IntY t a b u lt la lb lu = k_step t a b lt la lb
 element_kept h BoolY t a b u lt la lb lu = k_step t a b lt la lb
 element_kept h (EnumY e) t a b u lt la lb lu = k_step t a b lt la lb
@@ -179,18 +180,18 @@ element_kept h (StructY e) t a b u lt la lb lu = stepped_kept (words h (StructY 
 element_kept h (UnionY e) t a b u lt la lb lu = stepped_kept (words h (UnionY e)) t a b u (words_small h (UnionY e)) lt la lb (omega (arith, lu))
 element_kept h (ArrayY of len) t a b u lt la lb lu = stepped_kept (words h (ArrayY of len)) t a b u (words_small h (ArrayY of len)) lt la lb (omega (arith, lu))
 
-member_of_kept : {s : Site} {ls : List Bool} (place : Bool) (ty : Ty) (t : ℕ) → t < s.temps → Keeps s ls (member_of place ty t)
+member_of_kept : {s : Site} {ls : List Bool} (place : Bool) (ty : Ty) (t : ℕ) → t < s.temps → Keeps s ls (coded (member_of place ty t))
 member_of_kept true ty t lt = none
 member_of_kept false ty t lt = either_kept (is_structure ty) none (k_load t t lt lt)
 
-converted_to_kept : {s : Site} {ls : List Bool} (tys : List Ty) (known : Bool) (t : ℕ) → t < s.temps → Keeps s ls (converted_to tys known t)
+converted_to_kept : {s : Site} {ls : List Bool} (tys : List Ty) (known : Bool) (t : ℕ) → t < s.temps → Keeps s ls (coded (converted_to tys known t))
 converted_to_kept [] known t lt = none
 converted_to_kept (ty ∷ tys) known t lt = converted_kept ty known t lt
 
 abbrev passed : Ty → (t : ℕ) → List ℕ → List ℕ
 passed ty t args = if is_structure ty then t ∷ args else args
 
-called_kept : {s : Site} {ls : List Bool} (h : Shape) (ty : Ty) (f k t : ℕ) (args : List ℕ) → parameter_count s.code f ≡ Some (length (passed ty t args)) → k + length (one_size h ty) ≤ s.locals → t < s.temps → AllOf (λ a. a < s.temps) args → Keeps s ls (called ty f k t args)
+called_kept : {s : Site} {ls : List Bool} (h : Shape) (ty : Ty) (f k t : ℕ) (args : List ℕ) → parameter_count s.code f ≡ Some (length (passed ty t args)) → k + length (one_size h ty) ≤ s.locals → t < s.temps → AllOf (λ a. a < s.temps) args → Keeps s ls (coded (called ty f k t args))
 called_kept h (StructY e) f k t args is lk lt all = both (k_fresh k (omega arith)) (both (k_local t k lt (omega arith)) (call_kept None f (t ∷ args) is (lt, all) tt))
 called_kept h (UnionY e) f k t args is lk lt all = both (k_fresh k (omega arith)) (both (k_local t k lt (omega arith)) (call_kept None f (t ∷ args) is (lt, all) tt))
 called_kept h VoidY f k t args is lk lt all = call_kept None f args is all tt
@@ -240,7 +241,7 @@ mutual
   low_kept s z h link (Typed kind ty span) typed words = record { at = λ ls t n m lt ln lm. kind_kept s z h link kind ty typed.1 words.0 ls t n m lt ln lm }
 
   kind_kept : (s : Site) (z : Scene) (h : Shape) → Linked s z h → (k : TKindT) (ty : Ty) → IsKind z k ty → KindInWords k → (ls : List Bool) (t n m : ℕ)
-      → t < s.temps → n + temps_of k ty ≤ s.temps → m + length (sizes_of h k) ≤ s.locals → Keeps s ls (low_kind h k ty t n m)
+      → t < s.temps → n + temps_of k ty ≤ s.temps → m + length (sizes_of h k) ≤ s.locals → Keeps s ls (coded (low_kind h k ty t n m))
   kind_kept s z h link (NumberK x) ty is w ls t n m lt ln lm = k_const t x lt w
   kind_kept s z h link NullK ty is w ls t n m lt ln lm = k_null t lt
   kind_kept s z h link (LiteralK number) ty is w ls t n m lt ln lm =
@@ -281,7 +282,7 @@ mutual
   kind_kept s z h link CardK ty is w ls t n m lt ln lm = op_kept (CardO t) tt tt (lt, tt)
 
   args_kept : (s : Site) (z : Scene) (h : Shape) → Linked s z h → (tys : List Ty) (xs : TExprTs) → AreValues z xs → AllInWords xs → (ls : List Bool) (n m : ℕ)
-      → n + temps_all xs ≤ s.temps → m + length (sizes_all h xs) ≤ s.locals → Keeps s ls (low_args h tys xs n m)
+      → n + temps_all xs ≤ s.temps → m + length (sizes_all h xs) ≤ s.locals → Keeps s ls (coded (low_args h tys xs n m))
   args_kept s z h link tys NoX is w ls n m ln lm = none
   args_kept s z h link tys (MoreX x xs) is w ls n m ln lm =
       let v = value_kept s h x (low_kept s z h link x is.0 w.0) in

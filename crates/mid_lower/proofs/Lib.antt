@@ -56,11 +56,6 @@ pub mod CallsOfStatements
 pub mod LooplessStatements
 pub mod StaysStraight
 pub mod Onto
-pub mod PartsListed
-pub mod ExpressionsListed
-pub mod InitialisersListed
-pub mod StatementsListed
-pub mod FunctionsListed
 pub mod Counted
 pub mod ProgramsListed
 pub mod Kept

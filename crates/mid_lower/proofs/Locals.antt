@@ -11,6 +11,7 @@ use Rattle.c_meaning.specs.Statements.{left}
 use Rattle.mid_code.specs.Code.{FreshO, NodesT, Do, CodeT}
 use Rattle.mid_code.specs.Meaning.{Res}
 use Rattle.mid_code.specs.States.{sizes_of}
+use Rattle.lower_trees.specs.Pieces.{coded}
 use Rattle.lower_trees.specs.Statements.{Jump}
 use Rattle.lower_trees.specs.Parts as part
 use Rattle.mid_lower.proofs.Grows.{Mid}
@@ -109,8 +110,8 @@ module _ (S : Site) where
   words_at : (ty : Ty) (γ : Goal) (s0 k : ℕ) (w : World) (x : Side) → HomeOf S.s S.code S.frames ty γ.base.function γ.base.own → Now γ s0 w x → k < γ.base.own → words_here (sizes_of S.code S.frames) w.store.function k ≡ words_here S.s.sizes w.store.function k
   words_at ty γ s0 k w x home h lt = subst (λ fn. words_here (sizes_of S.code S.frames) fn k ≡ words_here S.s.sizes fn k) (sym h.stays.same_function) (home.words k lt)
 
-  pub mades : (ty : Ty) (γ : Goal) (s0 : ℕ) {A : Type 0} (T : A → Res Mid → Type 0) (ks : List ℕ) (w : World) (x : Side) (c : NodesT ℕ) → HomeOf S.s S.code S.frames ty γ.base.function γ.base.own → Below γ.base.own ks → Now γ s0 w x → (go : World → A) → ((wa : World) (xa : Side) → Now γ s0 wa xa → xa.temps ≡ x.temps → T (go wa) (R c (mk wa xa))) → T (go (on_store (fresh_all S.s.sizes ks) w)) (R (part.made ks c) (mk w x))
+  pub mades : (ty : Ty) (γ : Goal) (s0 : ℕ) {A : Type 0} (T : A → Res Mid → Type 0) (ks : List ℕ) (w : World) (x : Side) (c : NodesT ℕ) → HomeOf S.s S.code S.frames ty γ.base.function γ.base.own → Below γ.base.own ks → Now γ s0 w x → (go : World → A) → ((wa : World) (xa : Side) → Now γ s0 wa xa → xa.temps ≡ x.temps → T (go wa) (R c (mk wa xa))) → T (go (on_store (fresh_all S.s.sizes ks) w)) (R (coded (part.made ks) c) (mk w x))
   mades ty γ s0 T [] w x c home bl h go f = f w x h refl
   mades ty γ s0 T (y ∷ ks) w x c home bl h go f =
-      subst (T (go (on_store (fresh_all S.s.sizes ks) (on_store (fresh S.s.sizes y) w)))) (sym (freshed y (part.made ks c) w x h.stays.fit.under (omega (arith, h.stays.same_own, bl.0)) (words_at ty γ s0 y w x home h bl.0)))
+      subst (T (go (on_store (fresh_all S.s.sizes ks) (on_store (fresh S.s.sizes y) w)))) (sym (freshed y (coded (part.made ks) c) w x h.stays.fit.under (omega (arith, h.stays.same_own, bl.0)) (words_at ty γ s0 y w x home h bl.0)))
       (mades ty γ s0 T ks (on_store (fresh S.s.sizes y) w) (fresh_side y w x) c home bl.1 (fresh_now γ s0 y w x h) go f)

@@ -8,7 +8,7 @@ use Rattle.c_types.specs.Kinds.{is_structure}
 use Rattle.c_meaning.specs.Frames.{over, over_all}
 use Rattle.lower_trees.specs.Shape.{Shape, params_of, result_of}
 use Rattle.lower_trees.specs.Flags.{is_flag}
-use Rattle.lower_trees.specs.Parts.{Nodes}
+use Rattle.lower_trees.specs.Pieces.{Nodes, coded}
 use Rattle.lower_trees.specs.Expressions.{second, beyond, spots, later_types, low, low_args, low_value, low_test}
 use Rattle.mid_lower.specs.SourceLoops.{reads_all, copies}
 use Rattle.mid_lower.proofs.Operands.{number_scalar, behind_scalar, from_scalar, unary_operand, binary_operands, index_operands, compound_operands, assigned_operands, cast_operand}
@@ -58,7 +58,7 @@ module _ (z : Scene) (h : Shape) where
     low_quiet (Typed HaltK ty span) is e t n m c = refl
     low_quiet (Typed CardK ty span) is e t n m c = refl
 
-    args_quiet : (tys : List Ty) (xs : TExprTs) → AreValues z xs → over_all copies xs ≡ zero → reads_all xs ≡ zero → (n m : ℕ) (c : Nodes) → tally of_loops (low_args h tys xs n m c) ≡ tally of_loops c
+    args_quiet : (tys : List Ty) (xs : TExprTs) → AreValues z xs → over_all copies xs ≡ zero → reads_all xs ≡ zero → (n m : ℕ) (c : Nodes) → tally of_loops (coded (low_args h tys xs n m) c) ≡ tally of_loops c
     args_quiet tys NoX is e r n m c = refl
     args_quiet tys (MoreX x xs) is e r n m c =
         value_quiet of_loops h x (low h x) (inr (omega (arith, r))) (low_quiet x is.0 (omega (arith, e))) n (n + 1) m _

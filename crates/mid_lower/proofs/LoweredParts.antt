@@ -4,7 +4,7 @@ use Rattle.c_types.specs.Programs.{TFunctionT, ProgramT}
 use Rattle.c_facts.specs.Sound.{IsFunction, AreFunctions, IsSound, scene}
 use Rattle.c_meaning.specs.Setting.{setting}
 use Rattle.lower_trees.specs.Shape.{shape}
-use Rattle.lower_trees.specs.Lowered.{low_function, lowered}
+use Rattle.lower_trees.specs.Lowered.{lowered, low_function}
 use Rattle.mid_lower.specs.LoweredFrom.{IsLoweredFunction, EachLowered, IsLoweredFrom}
 use Rattle.mid_lower.proofs.IsMidCode.{Known, lowered_is_mid}
 use Rattle.mid_lower.proofs.LocalWords.{local_words}

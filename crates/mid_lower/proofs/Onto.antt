@@ -1,58 +1,34 @@
--- Lists of nodes before further nodes: what a list in memory stands for, piece by piece.
-use Rattle.std.proofs.Common.{◌≡◌, ℕ, suc, ◌==◌, Bool, true, false, List, [], ◌∷◌, ◌++◌, refl, ap, ◌∙◌, if◌then◌else◌, arith}
-use Rattle.std.proofs.lemmas.Bool.Decides.{nat_tests}
-use Rattle.mid_code.specs.Code.{NodesT, Stop, Choose, Block, Loop}
-use Rattle.mid_code.specs.Functions.{NodeT, ChooseN, BlockN, LoopN, ListT, listed, joined, before}
+-- A list of nodes before further nodes: a piece read as a list stands for what it is read before other nodes.
+use Rattle.std.proofs.Common.{◌≡◌, true, false, [], ◌∷◌, ◌++◌, refl, ap, ◌∙◌}
+use Rattle.mid_code.specs.Code.{Stop, Choose, Block, Loop}
+use Rattle.mid_code.specs.Functions.{listed, joined, before}
+use Rattle.lower_trees.specs.Pieces.{Nodes, Listing, Piece, NothingP, ◌▸◌, EitherP, DoP, ChooseP, BlockP, LoopP, LeaveP, AgainP, ReturnP, coded, listing}
 
-abbrev pub Nodes : Type 0
-Nodes = NodesT ℕ
-
-abbrev pub Listing : Type 0
-Listing = List (NodeT ℕ)
-
-abbrev pub onto : Listing → Nodes → Nodes
+abbrev onto : Listing → Nodes → Nodes
 onto [] c = c
 onto (x ∷ xs) c = before x (onto xs c)
 
-pub joined_listed : (xs : Listing) → joined (listed xs) ≡ onto xs Stop
+joined_listed : (xs : Listing) → joined (listed xs) ≡ onto xs Stop
 joined_listed [] = refl
 joined_listed (x ∷ xs) = ap (before x) (joined_listed xs)
 
-pub onto_append : (xs ys : Listing) (c : Nodes) → onto (xs ++ ys) c ≡ onto xs (onto ys c)
+onto_append : (xs ys : Listing) (c : Nodes) → onto (xs ++ ys) c ≡ onto xs (onto ys c)
 onto_append [] ys c = refl
 onto_append (x ∷ xs) ys c = ap (before x) (onto_append xs ys c)
 
--- a list is what a part of code puts before others
-pub record Is (xs : Listing) (f : Nodes → Nodes) : Type 0 where
-  pub same : (c : Nodes) → onto xs c ≡ f c
+same : (a : Piece) (c : Nodes) → onto (listing a) c ≡ coded a c
+same NothingP c = refl
+same (a ▸ b) c = onto_append (listing a) (listing b) c ∙ ap (onto (listing a)) (same b c) ∙ same a (coded b c)
+same (EitherP true a b) c = same a c
+same (EitherP false a b) c = same b c
+same (DoP o) c = refl
+same (ChooseP p a b) c = λ i. Choose p ((joined_listed (listing a) ∙ same a Stop) i) ((joined_listed (listing b) ∙ same b Stop) i) c
+same (BlockP a) c = λ i. Block ((joined_listed (listing a) ∙ same a Stop) i) c
+same (LoopP a) c = λ i. Loop ((joined_listed (listing a) ∙ same a Stop) i) c
+same (LeaveP k) c = refl
+same (AgainP k) c = refl
+same (ReturnP p) c = refl
 
-pub seq : {xs ys : Listing} {f g : Nodes → Nodes} → Is xs f → Is ys g → Is (xs ++ ys) (λ c. f (g c))
-seq {xs} {ys} {f} {g} p q = record { same = λ c. onto_append xs ys c ∙ ap (onto xs) (q.same c) ∙ p.same (g c) }
-
-pub pick : {xs ys : Listing} {f g : Nodes → Nodes} (b : Bool) → Is xs f → Is ys g → Is (if b then xs else ys) (λ c. if b then f c else g c)
-pick true p q = p
-pick false p q = q
-
--- where a test fails
-pub leaving : (xs : Listing) {ys : Listing} {f : Nodes → Nodes} (b : Bool) → b ≡ false → Is ys f → Is (if b then xs else ys) f
-leaving xs {ys} {f} b e p = record { same = λ c. ap (λ v. onto (if v then xs else ys) c) e ∙ p.same c }
-
-pub not_zero : (k : ℕ) → (suc k == 0) ≡ false
-not_zero k = grind (arith, nat_tests)
-
--- nodes one by one
-pub plain : (xs : Listing) → Is xs (onto xs)
-plain xs = record { same = λ c. refl }
-
--- a list by itself
-pub whole : {xs : Listing} {f : Nodes → Nodes} → Is xs f → joined (listed xs) ≡ f Stop
-whole {xs} p = joined_listed xs ∙ p.same Stop
-
-pub chosen : (t : ℕ) (a b : ListT ℕ) {f g : Nodes} → joined a ≡ f → joined b ≡ g → Is (ChooseN t a b ∷ []) (λ c. Choose t f g c)
-chosen t a b p q = record { same = λ c. λ i. Choose t (p i) (q i) c }
-
-pub blocked : (b : ListT ℕ) {f : Nodes} → joined b ≡ f → Is (BlockN b ∷ []) (λ c. Block f c)
-blocked b p = record { same = λ c. λ i. Block (p i) c }
-
-pub looped : (b : ListT ℕ) {f : Nodes} → joined b ≡ f → Is (LoopN b ∷ []) (λ c. Loop f c)
-looped b p = record { same = λ c. λ i. Loop (p i) c }
+-- a piece by itself
+pub whole : (a : Piece) → joined (listed (listing a)) ≡ coded a Stop
+whole a = joined_listed (listing a) ∙ same a Stop

@@ -26,6 +26,7 @@ use Rattle.c_meaning.specs.Expressions.{evaluated}
 use Rattle.mid_code.specs.Code.{OpT, ConstO, NullO, OneO, PtrTestO, NodesT, Stop, Do, Choose}
 use Rattle.mid_code.specs.Meaning.{Res, Next, then_next}
 use Rattle.mid_code.specs.States.{temporaries, to, spent, one_word, pointers_tested}
+use Rattle.lower_trees.specs.Pieces.{coded}
 use Rattle.lower_trees.specs.Shape.{Shape, shape_in}
 use Rattle.lower_trees.specs.Flags.{tests_flag}
 use Rattle.lower_trees.specs.Parts as part
@@ -101,14 +102,14 @@ module _ (S : Site) where
 
   -- ---- operators on one value
 
-  one_sim : (e : TExprT) → Follow S e → is_structure (type_of e) ≡ false → (span : Span) (o : UnOp) (i : One) (t n m : ℕ) (c : NodesT ℕ) (w : World) (y : Side) → scratch ≤ t → t < n → Fit w y → Room S (base_of w y) m (value_sizes h e) → ((v : Cell) → one_word i v ≡ cell_unary o v) → SimV (goal false t n w y) (R c) false (src.with_value Stops S.s S.bound e (evaluated S.s S.bound S.prev e (tick w)) (λ v u. asked Stops span u (cell_unary o v) (λ z. Value z u))) (R (low.value h e (low.low h e) t n m (Do (OneO i t t) c)) (mk w y))
+  one_sim : (e : TExprT) → Follow S e → is_structure (type_of e) ≡ false → (span : Span) (o : UnOp) (i : One) (t n m : ℕ) (c : NodesT ℕ) (w : World) (y : Side) → scratch ≤ t → t < n → Fit w y → Room S (base_of w y) m (value_sizes h e) → ((v : Cell) → one_word i v ≡ cell_unary o v) → SimV (goal false t n w y) (R c) false (src.with_value Stops S.s S.bound e (evaluated S.s S.bound S.prev e (tick w)) (λ v u. asked Stops span u (cell_unary o v) (λ z. Value z u))) (R (coded (low.value h e (low.low h e) t n m) (Do (OneO i t t) c)) (mk w y))
   one_sim e sim ns span o i t n m c w y st tn u room same_op =
       let γ = goal false t n w y in
       uses S γ (way_v γ (R c) false) 36 t n m (tick w) y (Do (OneO i t t) c) (begin_value t n w y u) (at_free γ) (omega arith) st tn e ns room (λ v wa. asked Stops span wa (cell_unary o v) (λ z. Value z wa)) sim
       (λ v wa xa flag ha at below. op S γ (way_v γ (R c) false) 56 span wa xa t (cell_unary o v) (one_word i (xa.temps t)) (OneO i t t) c ha (at_free γ)
       (same (cell_unary o v) (one_word i (xa.temps t)) (ap (λ z. one_word i z) at ∙ same_op v)) refl (λ z. Value z wa) (λ z y2 hy at2 rest. to_value t n w y c 56 z wa y2 hy at2))
 
-  not_as : (t n : ℕ) (w0 : World) (x0 : Side) (span : Span) (ty : Ty) (c : NodesT ℕ) (w : World) (x : Side) (v : Cell) → scratch ≤ t → Now (goal false t n w0 x0) 64 w x → x.temps t ≡ v → SimV (goal false t n w0 x0) (R c) false (asked Stops span w (is_true w.store.objects ty v) (λ b. either_way b w (λ u. Value (truth false) u) (λ u. Value (truth true) u))) (R (part.negated_as ty t c) (mk w x))
+  not_as : (t n : ℕ) (w0 : World) (x0 : Side) (span : Span) (ty : Ty) (c : NodesT ℕ) (w : World) (x : Side) (v : Cell) → scratch ≤ t → Now (goal false t n w0 x0) 64 w x → x.temps t ≡ v → SimV (goal false t n w0 x0) (R c) false (asked Stops span w (is_true w.store.objects ty v) (λ b. either_way b w (λ u. Value (truth false) u) (λ u. Value (truth true) u))) (R (coded (part.negated_as ty t) c) (mk w x))
   not_as t n w0 x0 span ty c w x v st h0 e = by ty
     where
       by_word : SimV (goal false t n w0 x0) (R c) false (asked Stops span w (then_ask (word_of v) (λ i. Ok (not (i == 0)))) (λ b. either_way b w (λ u. Value (truth false) u) (λ u. Value (truth true) u))) (R (Do (OneO BNOT t t) c) (mk w x))
@@ -123,11 +124,11 @@ module _ (S : Site) where
       split (Err Strays) = refl
       split (Err (Faults k)) = refl
 
-      by : (ty : Ty) → SimV (goal false t n w0 x0) (R c) false (asked Stops span w (is_true w.store.objects ty v) (λ b. either_way b w (λ u. Value (truth false) u) (λ u. Value (truth true) u))) (R (part.negated_as ty t c) (mk w x))
+      by : (ty : Ty) → SimV (goal false t n w0 x0) (R c) false (asked Stops span w (is_true w.store.objects ty v) (λ b. either_way b w (λ u. Value (truth false) u) (λ u. Value (truth true) u))) (R (coded (part.negated_as ty t) c) (mk w x))
       by (PointerY of) =
           let γ = goal false t n w0 x0 in
           let q : Answer Cell = then_ask (equal_pointers w.store.objects v Null) (λ b. Ok (truth b)) in
-          subst (λ r. SimV γ (R c) false r (R (part.negated_as (PointerY of) t c) (mk w x))) (sym (split (equal_pointers w.store.objects v Null)))
+          subst (λ r. SimV γ (R c) false r (R (coded (part.negated_as (PointerY of) t) c) (mk w x))) (sym (split (equal_pointers w.store.objects v Null)))
           (sets S (SimV γ (R c) false) γ 56 w x part.other Null (NullO part.other) (Do (PtrTestO IEQ t t part.other) c) h0 (low_free γ part.other (omega arith)) refl (asked Stops span w q (λ z. Value z w)) (λ y hy at rest.
           op S γ (way_v γ (R c) false) 48 span w y t q (pointers_tested IEQ y.objs (y.temps t) (y.temps part.other)) (PtrTestO IEQ t t part.other) c hy (at_free γ)
           (from_eq q (pointers_tested IEQ y.objs v Null) (pointers_tested IEQ y.objs (y.temps t) (y.temps part.other)) (tested_eq IEQ y.objs v Null (y.temps t) (y.temps part.other) (rest t (eqb_more t part.other (omega (arith, st))) ∙ e) at) (then_both (equal_pointers w.store.objects v Null) (equal_pointers y.objs v Null) _ _ (equal_both w.store.objects y.objs v Null hy.stays.fit.under) (λ z. refl))) refl
@@ -140,19 +141,19 @@ module _ (S : Site) where
       by (UnionY k) = by_word
       by (ArrayY of k) = by_word
 
-  pub address_sim : (e : TExprT) → Follow S e → (span : Span) (t n m : ℕ) (c : NodesT ℕ) (w : World) (y : Side) → scratch ≤ t → t < n → Fit w y → Room S (base_of w y) m (sizes h e) → SimV (goal false t n w y) (R c) false (src.unary S.s S.bound un.Address e span (evaluated S.s S.bound S.prev e (tick w))) (R (low.unary h un.Address e (low.low h e) t n m c) (mk w y))
+  pub address_sim : (e : TExprT) → Follow S e → (span : Span) (t n m : ℕ) (c : NodesT ℕ) (w : World) (y : Side) → scratch ≤ t → t < n → Fit w y → Room S (base_of w y) m (sizes h e) → SimV (goal false t n w y) (R c) false (src.unary S.s S.bound un.Address e span (evaluated S.s S.bound S.prev e (tick w))) (R (coded (low.unary h un.Address e (low.low h e) t n m) c) (mk w y))
   address_sim e sim span t n m c w y st tn u room =
       let γ = goal false t n w y in
-      bind_place γ (R c) false 36 t n (tick w) y (R c) (begin_value t n w y u) (at_free γ) (omega arith) (R_grows c) (is_place e) span (evaluated S.s S.bound S.prev e (tick w)) (R (low.low h e t n m c) (mk w y)) (sim t n m c (tick w) y st tn u room) (λ p wa. Value p wa) (λ v wa xa er ha at below. to_value t n w y c 88 v wa xa ha at)
+      bind_place γ (R c) false 36 t n (tick w) y (R c) (begin_value t n w y u) (at_free γ) (omega arith) (R_grows c) (is_place e) span (evaluated S.s S.bound S.prev e (tick w)) (R (coded (low.low h e t n m) c) (mk w y)) (sim t n m c (tick w) y st tn u room) (λ p wa. Value p wa) (λ v wa xa er ha at below. to_value t n w y c 88 v wa xa ha at)
 
-  pub unary_sim : (o : UnOp) (e : TExprT) → Follow S e → is_structure (type_of e) ≡ false → (span : Span) (t n m : ℕ) (c : NodesT ℕ) (w : World) (y : Side) → scratch ≤ t → t < n → Fit w y → Room S (base_of w y) m (unary_sizes h o e (sizes h e)) → SimV (goal (is_place_kind (UnaryK o e)) t n w y) (R c) (is_place_kind (UnaryK o e)) (src.unary S.s S.bound o e span (evaluated S.s S.bound S.prev e (tick w))) (R (low.unary h o e (low.low h e) t n m c) (mk w y))
+  pub unary_sim : (o : UnOp) (e : TExprT) → Follow S e → is_structure (type_of e) ≡ false → (span : Span) (t n m : ℕ) (c : NodesT ℕ) (w : World) (y : Side) → scratch ≤ t → t < n → Fit w y → Room S (base_of w y) m (unary_sizes h o e (sizes h e)) → SimV (goal (is_place_kind (UnaryK o e)) t n w y) (R c) (is_place_kind (UnaryK o e)) (src.unary S.s S.bound o e span (evaluated S.s S.bound S.prev e (tick w))) (R (coded (low.unary h o e (low.low h e) t n m) c) (mk w y))
   unary_sim un.Deref e sim ns span t n m c w y st tn u room =
       let γ = goal true t n w y in
       uses S γ (way_v γ (R c) true) 12 t n m (tick w) y c (begin_place t n w y u) (at_free γ) (omega arith) st tn e ns room (λ p wa. Place p wa) sim (λ v wa xa flag ha at below. to_place t n w y c 40 v wa xa ha at)
   unary_sim un.Address e sim ns span t n m c w y st tn u room = address_sim e sim span t n m c w y st tn u room
   unary_sim un.Not e sim ns span t n m c w y st tn u room =
       let γ = goal false t n w y in
-      uses S γ (way_v γ (R c) false) 36 t n m (tick w) y (part.negated_as (decayed (type_of e)) t c) (begin_value t n w y u) (at_free γ) (omega arith) st tn e ns room
+      uses S γ (way_v γ (R c) false) 36 t n m (tick w) y (coded (part.negated_as (decayed (type_of e)) t) c) (begin_value t n w y u) (at_free γ) (omega arith) st tn e ns room
       (λ v wa. asked Stops (span_of e) wa (is_true wa.store.objects (decayed (type_of e)) v) (λ b. either_way b wa (λ u. Value (truth false) u) (λ u. Value (truth true) u))) sim
       (λ v wa xa flag ha at below. not_as t n w y (span_of e) (decayed (type_of e)) c wa xa v st ha at)
   unary_sim un.Minus e sim ns span t n m c w y st tn u room = one_sim e sim ns span un.Minus ISGN t n m c w y st tn u room by
@@ -177,15 +178,15 @@ module _ (S : Site) where
   -- ---- operators on two values
 
   both_sim : (o : BinOp) (a b : TExprT) → Follow S a → Follow S b → is_structure (type_of a) ≡ false → is_structure (type_of b) ≡ false → (span : Span) (t n m : ℕ) (c : NodesT ℕ) (w : World) (y : Side) → scratch ≤ t → t < n → Fit w y → Room S (base_of w y) m (value_sizes h a ++ value_sizes h b)
-      → SimV (goal false t n w y) (R c) false (src.both_operated S.s S.bound o a b span (evaluated S.s S.bound S.prev a (tick w)) (evaluated S.s S.bound S.prev b)) (R (low.value h a (low.low h a) n (n + 1) m (low.value h b (low.low h b) (low.second a n) (low.second a n + 1) (low.beyond h a m) (part.operated h o (type_of a) (type_of b) t n (low.second a n) (low.size_at a b n) c))) (mk w y))
+      → SimV (goal false t n w y) (R c) false (src.both_operated S.s S.bound o a b span (evaluated S.s S.bound S.prev a (tick w)) (evaluated S.s S.bound S.prev b)) (R (coded (low.value h a (low.low h a) n (n + 1) m) (coded (low.value h b (low.low h b) (low.second a n) (low.second a n + 1) (low.beyond h a m)) (coded (part.operated h o (type_of a) (type_of b) t n (low.second a n) (low.size_at a b n)) c))) (mk w y))
   both_sim o a b sima simb nsa nsb span t n m c w y st tn u room =
       let γ = goal false t n w y in
       let σ = way_v γ (R c) false in
       let n2 : ℕ = low.second a n in
       let m2 : ℕ = low.beyond h a m in
       let n3 : ℕ = low.size_at a b n in
-      let c1 : NodesT ℕ = part.operated h o (type_of a) (type_of b) t n n2 n3 c in
-      uses S γ σ 36 n (n + 1) m (tick w) y (low.value h b (low.low h b) n2 (n2 + 1) m2 c1) (begin_value t n w y u) (above_free γ n (omega arith)) (omega arith) (omega (arith, st, tn)) (omega arith) a nsa (room_first S γ.base m (value_sizes h a) (value_sizes h b) room)
+      let c1 : NodesT ℕ = coded (part.operated h o (type_of a) (type_of b) t n n2 n3) c in
+      uses S γ σ 36 n (n + 1) m (tick w) y (coded (low.value h b (low.low h b) n2 (n2 + 1) m2) c1) (begin_value t n w y u) (above_free γ n (omega arith)) (omega arith) (omega (arith, st, tn)) (omega arith) a nsa (room_first S γ.base m (value_sizes h a) (value_sizes h b) room)
       (λ v wa. src.with_value Stops S.s S.bound b (evaluated S.s S.bound S.prev b wa) (λ d wb. asked Stops span wb (operated S.s o (type_of a) (type_of b) wb.store.objects v d) (λ z. Value z wb))) sima
       (λ v wa xa flag ha at below.
       uses S γ σ 64 n2 (n2 + 1) m2 wa xa c1 ha (above_free γ n2 (omega arith)) (omega arith) (omega (arith, st, tn)) (omega arith) b nsb (room_second S γ.base m (value_sizes h a) (value_sizes h b) room) (λ d wb. asked Stops span wb (operated S.s o (type_of a) (type_of b) wb.store.objects v d) (λ z. Value z wb)) simb
@@ -202,18 +203,18 @@ module _ (S : Site) where
   through γ c (Stops f w) q a = kept_through γ f w q (λ z. then_next z (R c)) (λ g t. refl) (λ z. then_grows z (R c) (R_grows c)) a
 
   -- 1 or 0 for the word of a condition
-  as_bool : (known : Bool) (t n : ℕ) (w0 : World) (y0 : Side) (i : ℕ) (w : World) (x : Side) → (known ≡ true → IsFlag (Num i)) → Now (goal false t n w0 y0) 24 w x → x.temps t ≡ Num i → SimV (goal false t n w0 y0) k_next false (Value (truth (not (i == 0))) w) (R (part.as_flag known t Stop) (mk w x))
+  as_bool : (known : Bool) (t n : ℕ) (w0 : World) (y0 : Side) (i : ℕ) (w : World) (x : Side) → (known ≡ true → IsFlag (Num i)) → Now (goal false t n w0 y0) 24 w x → x.temps t ≡ Num i → SimV (goal false t n w0 y0) k_next false (Value (truth (not (i == 0))) w) (R (coded (part.as_flag known t) Stop) (mk w x))
   as_bool true t n w0 y0 i w x flag h0 e = (refl, x, refl, less_now (goal false t n w0 y0) 24 w x h0, e ∙ sym (ap cell_in (flag refl)))
   as_bool false t n w0 y0 i w x flag h0 e =
       let γ = goal false t n w0 y0 in
       sets S (SimV γ k_next false) γ 16 w x t (truth (not (i == 0))) (OneO CIB t t) Stop h0 (at_free γ) (ap (λ z. to temporaries t (one_word CIB z) (spent 8 (mk w x))) e) (Value (truth (not (i == 0))) w) (λ y hy at2 rest. (refl, y, refl, less_now γ 16 w y hy, at2))
 
   -- the second operand of `&&` and `||`, as 1 or 0
-  second_sim : (t n : ℕ) (w0 : World) (y0 : Side) (b : TExprT) → Follow S b → is_structure (type_of b) ≡ false → (n2 m2 : ℕ) (w : World) (x : Side) (c : NodesT ℕ) → n ≤ n2 → scratch ≤ t → t < n → Room S (base_of w0 y0) m2 (value_sizes h b) → Now (goal false t n w0 y0) 12 w x → SimV (goal false t n w0 y0) (R c) false (src.truth_of S.s S.bound b (evaluated S.s S.bound S.prev b w)) (then_next (R (low.test h b (low.low h b) t n2 m2 (part.as_flag (tests_flag b) t Stop)) (mk w x)) (R c))
+  second_sim : (t n : ℕ) (w0 : World) (y0 : Side) (b : TExprT) → Follow S b → is_structure (type_of b) ≡ false → (n2 m2 : ℕ) (w : World) (x : Side) (c : NodesT ℕ) → n ≤ n2 → scratch ≤ t → t < n → Room S (base_of w0 y0) m2 (value_sizes h b) → Now (goal false t n w0 y0) 12 w x → SimV (goal false t n w0 y0) (R c) false (src.truth_of S.s S.bound b (evaluated S.s S.bound S.prev b w)) (then_next (R (coded (low.test h b (low.low h b) t n2 m2) (coded (part.as_flag (tests_flag b) t) Stop)) (mk w x)) (R c))
   second_sim t n w0 y0 b sim ns n2 m2 w x c lt st tn room h0 =
       let γ = goal false t n w0 y0 in
-      let last : NodesT ℕ = part.as_flag (tests_flag b) t Stop in
-      through γ c (src.truth_of S.s S.bound b (evaluated S.s S.bound S.prev b w)) (R (low.test h b (low.low h b) t n2 m2 last) (mk w x))
+      let last : NodesT ℕ = coded (part.as_flag (tests_flag b) t) Stop in
+      through γ c (src.truth_of S.s S.bound b (evaluated S.s S.bound S.prev b w)) (R (coded (low.test h b (low.low h b) t n2 m2) last) (mk w x))
       (tests S γ (way_v γ k_next false) 12 t n2 m2 w x last h0 (at_free γ) lt st (omega (arith, tn, lt)) b ns room (λ u. Value (truth true) u) (λ u. Value (truth false) u) sim
       (λ i wa xa flag ha at below. subst (λ r. SimV γ k_next false r (R last (mk wa xa))) (sym (truth_way (not (i == 0)) wa)) (as_bool (tests_flag b) t n w0 y0 i wa xa flag ha at)))
 
@@ -224,17 +225,17 @@ module _ (S : Site) where
       through γ c (Value (Num i) w) (R (Do (ConstO t i) Stop) (mk w x)) (sets S (SimV γ k_next false) γ 0 w x t (Num i) (ConstO t i) Stop h0 (at_free γ) refl (Value (Num i) w) (λ y hy at rest. (refl, y, refl, hy, at)))
 
   pub binary_sim : (o : BinOp) (a b : TExprT) → Follow S a → Follow S b → is_structure (type_of a) ≡ false → is_structure (type_of b) ≡ false → (span : Span) (t n m : ℕ) (c : NodesT ℕ) (w : World) (y : Side) → scratch ≤ t → t < n → Fit w y → Room S (base_of w y) m (value_sizes h a ++ value_sizes h b)
-      → SimV (goal false t n w y) (R c) false (src.binary S.s S.bound o a b span (evaluated S.s S.bound S.prev a (tick w)) (evaluated S.s S.bound S.prev b)) (R (low.binary h o a b (low.low h a) (low.low h b) t n m c) (mk w y))
+      → SimV (goal false t n w y) (R c) false (src.binary S.s S.bound o a b span (evaluated S.s S.bound S.prev a (tick w)) (evaluated S.s S.bound S.prev b)) (R (coded (low.binary h o a b (low.low h a) (low.low h b) t n m) c) (mk w y))
   binary_sim bin.AndAlso a b sima simb nsa nsb span t n m c w y st tn u room =
       let γ = goal false t n w y in
-      let last : NodesT ℕ = low.test h b (low.low h b) t (low.second a n) (low.beyond h a m) (part.as_flag (tests_flag b) t Stop) in
+      let last : NodesT ℕ = coded (low.test h b (low.low h b) t (low.second a n) (low.beyond h a m)) (coded (part.as_flag (tests_flag b) t) Stop) in
       tests S γ (way_v γ (R c) false) 36 t n m (tick w) y (Choose t last (Do (ConstO t 0) Stop) c) (begin_value t n w y u) (at_free γ) (omega arith) st tn a nsa (room_first S γ.base m (value_sizes h a) (value_sizes h b) room) (λ v. src.truth_of S.s S.bound b (evaluated S.s S.bound S.prev b v)) (λ v. Value (truth false) v) sima
       (λ i wa xa flag ha at below. chooses S (SimV γ (R c) false) wa xa t i last (Do (ConstO t 0) Stop) c (λ v. src.truth_of S.s S.bound b (evaluated S.s S.bound S.prev b v)) (λ v. Value (truth false) v) at
       (second_sim t n w y b simb nsb (low.second a n) (low.beyond h a m) wa (paid xa) c (omega arith) st tn (room_second S γ.base m (value_sizes h a) (value_sizes h b) room) (spare γ 40 12 wa (paid xa) (omega arith) (paid_now γ 40 wa xa ha)))
       (decided t n w y 0 wa (paid xa) c (spare γ 40 8 wa (paid xa) (omega arith) (paid_now γ 40 wa xa ha))))
   binary_sim bin.OrElse a b sima simb nsa nsb span t n m c w y st tn u room =
       let γ = goal false t n w y in
-      let last : NodesT ℕ = low.test h b (low.low h b) t (low.second a n) (low.beyond h a m) (part.as_flag (tests_flag b) t Stop) in
+      let last : NodesT ℕ = coded (low.test h b (low.low h b) t (low.second a n) (low.beyond h a m)) (coded (part.as_flag (tests_flag b) t) Stop) in
       tests S γ (way_v γ (R c) false) 36 t n m (tick w) y (Choose t (Do (ConstO t 1) Stop) last c) (begin_value t n w y u) (at_free γ) (omega arith) st tn a nsa (room_first S γ.base m (value_sizes h a) (value_sizes h b) room) (λ v. Value (truth true) v) (λ v. src.truth_of S.s S.bound b (evaluated S.s S.bound S.prev b v)) sima
       (λ i wa xa flag ha at below. chooses S (SimV γ (R c) false) wa xa t i (Do (ConstO t 1) Stop) last c (λ v. Value (truth true) v) (λ v. src.truth_of S.s S.bound b (evaluated S.s S.bound S.prev b v)) at
       (decided t n w y 1 wa (paid xa) c (spare γ 40 8 wa (paid xa) (omega arith) (paid_now γ 40 wa xa ha)))

@@ -26,6 +26,7 @@ use Rattle.mid_code.specs.Code.{ConstO, MoveO, StepO, LoadO, StoreO, OutO, Nodes
 use Rattle.mid_code.specs.Meaning.{Res, did}
 use Rattle.mid_code.specs.States.{temporaries, to, spent}
 use Rattle.mid_code.specs.States as mid
+use Rattle.lower_trees.specs.Pieces.{coded}
 use Rattle.lower_trees.specs.Shape.{Shape, shape_in}
 use Rattle.lower_trees.specs.Flags.{is_flag}
 use Rattle.lower_trees.specs.Parts as part
@@ -67,16 +68,16 @@ module _ (S : Site) where
   tick w = spend 1 w
 
   pub assign_sim : (o : Option BinOp) (a b : TExprT) → Follow S a → Follow S b → is_structure (type_of a) ≡ false → is_structure (type_of b) ≡ false → (span : Span) (t n m : ℕ) (c : NodesT ℕ) (w : World) (y : Side) → scratch ≤ t → t < n → Fit w y → Room S (base_of w y) m (sizes h a ++ value_sizes h b)
-      → SimV (goal false t n w y) (R c) false (src.assign S.s S.bound o a b span (evaluated S.s S.bound S.prev a (tick w)) (evaluated S.s S.bound S.prev b)) (R (low.assign h o a b (low.low h a) (low.low h b) t n m c) (mk w y))
+      → SimV (goal false t n w y) (R c) false (src.assign S.s S.bound o a b span (evaluated S.s S.bound S.prev a (tick w)) (evaluated S.s S.bound S.prev b)) (R (coded (low.assign h o a b (low.low h a) (low.low h b) t n m) c) (mk w y))
   assign_sim None a b sima simb nsa nsb span t n m c w y st tn u room =
       let γ = goal false t n w y in
       let σ = way_v γ (R c) false in
       let n2 : ℕ = low.behind_place a n + 2 in
       let m2 : ℕ = m + length (sizes h a) in
-      let c1 : NodesT ℕ = part.converted (type_of a) (is_flag b) t (Do (StoreO n t) c) in
-      let c0 : NodesT ℕ = low.value h b (low.low h b) t n2 m2 c1 in
-      subst (λ z. SimV γ (R c) false (src.assign S.s S.bound None a b span (evaluated S.s S.bound S.prev a (tick w)) (evaluated S.s S.bound S.prev b)) (R (low.low h a n (n + 1) m (low.value h b (low.low h b) t n2 m2 (part.converted (type_of a) (is_flag b) t (if z then Do (MoveO part.from t) (Do (MoveO part.to n) (part.copied (words S.s (type_of a)) c)) else Do (StoreO n t) c)))) (mk w y))) (sym nsa)
-      (bind_place γ (R c) false 36 n (n + 1) (tick w) y (R c0) (begin_value S t n w y u) (above_free γ n (omega arith)) (omega arith) (R_grows c0) (is_place a) span (evaluated S.s S.bound S.prev a (tick w)) (R (low.low h a n (n + 1) m c0) (mk w y)) (sima n (n + 1) m c0 (tick w) y (omega (arith, st, tn)) (omega arith) u (room_first S γ.base m (sizes h a) (value_sizes h b) room))
+      let c1 : NodesT ℕ = coded (part.converted (type_of a) (is_flag b) t) (Do (StoreO n t) c) in
+      let c0 : NodesT ℕ = coded (low.value h b (low.low h b) t n2 m2) c1 in
+      subst (λ z. SimV γ (R c) false (src.assign S.s S.bound None a b span (evaluated S.s S.bound S.prev a (tick w)) (evaluated S.s S.bound S.prev b)) (R (coded (low.low h a n (n + 1) m) (coded (low.value h b (low.low h b) t n2 m2) (coded (part.converted (type_of a) (is_flag b) t) (if z then Do (MoveO part.from t) (Do (MoveO part.to n) (coded (part.copied (words S.s (type_of a))) c)) else Do (StoreO n t) c)))) (mk w y))) (sym nsa)
+      (bind_place γ (R c) false 36 n (n + 1) (tick w) y (R c0) (begin_value S t n w y u) (above_free γ n (omega arith)) (omega arith) (R_grows c0) (is_place a) span (evaluated S.s S.bound S.prev a (tick w)) (R (coded (low.low h a n (n + 1) m) c0) (mk w y)) (sima n (n + 1) m c0 (tick w) y (omega (arith, st, tn)) (omega arith) u (room_first S γ.base m (sizes h a) (value_sizes h b) room))
       (λ p wa. src.with_value Stops S.s S.bound b (evaluated S.s S.bound S.prev b wa) (λ d wb. src.assigned S.s S.bound a span p d wb))
       (λ p wa xa er ha at below.
       uses S γ σ 88 t n2 m2 wa xa c1 ha (at_free γ) (omega arith) st (omega (arith, tn)) b nsb (room_second S γ.base m (sizes h a) (value_sizes h b) room) (λ d wb. src.assigned S.s S.bound a span p d wb) simb
@@ -87,12 +88,12 @@ module _ (S : Site) where
       let σ = way_v γ (R c) false in
       let nb : ℕ = low.behind_place a n in
       let m2 : ℕ = m + length (sizes h a) in
-      let c3 : NodesT ℕ = part.converted (type_of a) false t (Do (StoreO n t) c) in
-      let c2 : NodesT ℕ = part.operated h o (type_of a) (type_of b) t t nb (nb + 1) c3 in
+      let c3 : NodesT ℕ = coded (part.converted (type_of a) false t) (Do (StoreO n t) c) in
+      let c2 : NodesT ℕ = coded (part.operated h o (type_of a) (type_of b) t t nb (nb + 1)) c3 in
       let c1 : NodesT ℕ = Do (LoadO t n) c2 in
-      let c0 : NodesT ℕ = low.value h b (low.low h b) nb (nb + 2) m2 c1 in
+      let c0 : NodesT ℕ = coded (low.value h b (low.low h b) nb (nb + 2) m2) c1 in
       let four : Four γ t t nb (nb + 1) = record { free_t = at_free γ; free_b = above_free γ nb (omega arith); free_u = above_free γ (nb + 1) (omega arith); a_b = eqb_less t nb (omega (arith, tn)); a_u = eqb_less t (nb + 1) (omega (arith, tn)); b_u = eqb_less nb (nb + 1) (omega arith); u_b = eqb_more (nb + 1) nb (omega arith); t_u = eqb_less t (nb + 1) (omega (arith, tn)) } in
-      bind_place γ (R c) false 36 n (n + 1) (tick w) y (R c0) (begin_value S t n w y u) (above_free γ n (omega arith)) (omega arith) (R_grows c0) (is_place a) span (evaluated S.s S.bound S.prev a (tick w)) (R (low.low h a n (n + 1) m c0) (mk w y)) (sima n (n + 1) m c0 (tick w) y (omega (arith, st, tn)) (omega arith) u (room_first S γ.base m (sizes h a) (value_sizes h b) room))
+      bind_place γ (R c) false 36 n (n + 1) (tick w) y (R c0) (begin_value S t n w y u) (above_free γ n (omega arith)) (omega arith) (R_grows c0) (is_place a) span (evaluated S.s S.bound S.prev a (tick w)) (R (coded (low.low h a n (n + 1) m) c0) (mk w y)) (sima n (n + 1) m c0 (tick w) y (omega (arith, st, tn)) (omega arith) u (room_first S γ.base m (sizes h a) (value_sizes h b) room))
       (λ p wa. src.with_value Stops S.s S.bound b (evaluated S.s S.bound S.prev b wa) (λ d wb. asked Stops (span_of a) wb (read_as (type_of a) wb.store.objects p) (λ old. asked Stops span wb (operated S.s o (type_of a) (type_of b) wb.store.objects old d) (λ z. src.assigned S.s S.bound a span p z wb))))
       (λ p wa xa er ha at below.
       uses S γ σ 88 nb (nb + 2) m2 wa xa c1 ha (above_free γ nb (omega arith)) (omega arith) (omega (arith, st, tn)) (omega arith) b nsb (room_second S γ.base m (sizes h a) (value_sizes h b) room) (λ d wb. asked Stops (span_of a) wb (read_as (type_of a) wb.store.objects p) (λ old. asked Stops span wb (operated S.s o (type_of a) (type_of b) wb.store.objects old d) (λ z. src.assigned S.s S.bound a span p z wb))) simb
@@ -108,7 +109,7 @@ module _ (S : Site) where
 
   -- one more or one less than the cell in a
   made : (o : StepOp) (γ : Goal) (σ : Way γ) (span : Span) (w : World) (s0 : ℕ) (x : Side) (ty : Ty) (t a u : ℕ) (va : Cell) (c : NodesT ℕ) → Now γ (s0 + 24) w x → Free γ t → Free γ u → eqb a u ≡ false → x.temps a ≡ va → (go : Cell → σ.R) → Further S γ σ span w s0 x t u c go
-      → σ.T (asked σ.stop span w (operated S.s (src.step_operator o) ty IntY w.store.objects va (Num 1)) go) (R (low.step_made h o ty t a u c) (mk w x))
+      → σ.T (asked σ.stop span w (operated S.s (src.step_operator o) ty IntY w.store.objects va (Num 1)) go) (R (coded (low.step_made h (low.counts_up o) ty t a u) c) (mk w x))
   made stepping.PreUp γ σ span w s0 x ty t a u va c h0 free free_u ne e go f = ups S γ σ span w s0 x ty t a u va c h0 free free_u ne e go f
   made stepping.PostUp γ σ span w s0 x ty t a u va c h0 free free_u ne e go f = ups S γ σ span w s0 x ty t a u va c h0 free free_u ne e go f
   made stepping.PreDown γ σ span w s0 x ty t a u va c h0 free free_u ne e go f = downs S γ σ span w s0 x ty t a u va c h0 free free_u ne e go f
@@ -120,13 +121,13 @@ module _ (S : Site) where
 
     -- the new cell is given
     fore : SimV γ (R c) false (then_place span (evaluated S.s S.bound S.prev a (tick w)) (λ p wa. asked Stops (span_of a) wa (read_as (type_of a) wa.store.objects p) (λ old. asked Stops span wa (operated S.s (src.step_operator o) (type_of a) IntY wa.store.objects old (Num 1)) (λ z. old_or_new false old (src.assigned S.s S.bound a span p z wa)))))
-        (R (low.low h a n (n + 2) m (low.stepped_to h o a t t n c)) (mk w y))
+        (R (coded (low.low h a n (n + 2) m) (coded (low.stepped_to h (low.counts_up o) (type_of a) t t n) c)) (mk w y))
     fore =
         let σ = way_v γ (R c) false in
-        let c2 : NodesT ℕ = part.converted (type_of a) false t (Do (StoreO n t) c) in
-        let c1 : NodesT ℕ = low.step_made h o (type_of a) t t (n + 1) c2 in
+        let c2 : NodesT ℕ = coded (part.converted (type_of a) false t) (Do (StoreO n t) c) in
+        let c1 : NodesT ℕ = coded (low.step_made h (low.counts_up o) (type_of a) t t (n + 1)) c2 in
         let c0 : NodesT ℕ = Do (LoadO t n) c1 in
-        bind_place γ (R c) false 36 n (n + 2) (tick w) y (R c0) (begin_value S t n w y u) (above_free γ n (omega arith)) (omega arith) (R_grows c0) (is_place a) span (evaluated S.s S.bound S.prev a (tick w)) (R (low.low h a n (n + 2) m c0) (mk w y)) (sima n (n + 2) m c0 (tick w) y (omega (arith, st, tn)) (omega arith) u room)
+        bind_place γ (R c) false 36 n (n + 2) (tick w) y (R c0) (begin_value S t n w y u) (above_free γ n (omega arith)) (omega arith) (R_grows c0) (is_place a) span (evaluated S.s S.bound S.prev a (tick w)) (R (coded (low.low h a n (n + 2) m) c0) (mk w y)) (sima n (n + 2) m c0 (tick w) y (omega (arith, st, tn)) (omega arith) u room)
         (λ p wa. asked Stops (span_of a) wa (read_as (type_of a) wa.store.objects p) (λ old. asked Stops span wa (operated S.s (src.step_operator o) (type_of a) IntY wa.store.objects old (Num 1)) (λ z. old_or_new false old (src.assigned S.s S.bound a span p z wa))))
         (λ p wa xa er ha at below. loads S γ σ (span_of a) wa 80 xa (type_of a) t n p c1 ha (at_free γ) at (λ old. asked Stops span wa (operated S.s (src.step_operator o) (type_of a) IntY wa.store.objects old (Num 1)) (λ z. old_or_new false old (src.assigned S.s S.bound a span p z wa)))
         (λ old xb hb at2 rest2. made o γ σ span wa 56 xb (type_of a) t t (n + 1) old c2 hb (at_free γ) (above_free γ (n + 1) (omega arith)) (eqb_less t (n + 1) (omega (arith, tn))) at2 (λ z. old_or_new false old (src.assigned S.s S.bound a span p z wa))
@@ -135,13 +136,13 @@ module _ (S : Site) where
 
     -- the old cell is given
     back : SimV γ (R c) false (then_place span (evaluated S.s S.bound S.prev a (tick w)) (λ p wa. asked Stops (span_of a) wa (read_as (type_of a) wa.store.objects p) (λ old. asked Stops span wa (operated S.s (src.step_operator o) (type_of a) IntY wa.store.objects old (Num 1)) (λ z. old_or_new true old (src.assigned S.s S.bound a span p z wa)))))
-        (R (low.low h a n (n + 2) m (low.stepped_to h o a (n + 1) t n c)) (mk w y))
+        (R (coded (low.low h a n (n + 2) m) (coded (low.stepped_to h (low.counts_up o) (type_of a) (n + 1) t n) c)) (mk w y))
     back =
         let σ = way_v γ (R c) false in
-        let c2 : NodesT ℕ = part.converted (type_of a) false (n + 1) (Do (StoreO n (n + 1)) c) in
-        let c1 : NodesT ℕ = low.step_made h o (type_of a) (n + 1) t (n + 1) c2 in
+        let c2 : NodesT ℕ = coded (part.converted (type_of a) false (n + 1)) (Do (StoreO n (n + 1)) c) in
+        let c1 : NodesT ℕ = coded (low.step_made h (low.counts_up o) (type_of a) (n + 1) t (n + 1)) c2 in
         let c0 : NodesT ℕ = Do (LoadO t n) c1 in
-        bind_place γ (R c) false 36 n (n + 2) (tick w) y (R c0) (begin_value S t n w y u) (above_free γ n (omega arith)) (omega arith) (R_grows c0) (is_place a) span (evaluated S.s S.bound S.prev a (tick w)) (R (low.low h a n (n + 2) m c0) (mk w y)) (sima n (n + 2) m c0 (tick w) y (omega (arith, st, tn)) (omega arith) u room)
+        bind_place γ (R c) false 36 n (n + 2) (tick w) y (R c0) (begin_value S t n w y u) (above_free γ n (omega arith)) (omega arith) (R_grows c0) (is_place a) span (evaluated S.s S.bound S.prev a (tick w)) (R (coded (low.low h a n (n + 2) m) c0) (mk w y)) (sima n (n + 2) m c0 (tick w) y (omega (arith, st, tn)) (omega arith) u room)
         (λ p wa. asked Stops (span_of a) wa (read_as (type_of a) wa.store.objects p) (λ old. asked Stops span wa (operated S.s (src.step_operator o) (type_of a) IntY wa.store.objects old (Num 1)) (λ z. old_or_new true old (src.assigned S.s S.bound a span p z wa))))
         (λ p wa xa er ha at below. loads S γ σ (span_of a) wa 80 xa (type_of a) t n p c1 ha (at_free γ) at (λ old. asked Stops span wa (operated S.s (src.step_operator o) (type_of a) IntY wa.store.objects old (Num 1)) (λ z. old_or_new true old (src.assigned S.s S.bound a span p z wa)))
         (λ old xb hb at2 rest2. made o γ σ span wa 56 xb (type_of a) (n + 1) t (n + 1) old c2 hb (above_free γ (n + 1) (omega arith)) (above_free γ (n + 1) (omega arith)) (eqb_less t (n + 1) (omega (arith, tn))) at2 (λ z. old_or_new true old (src.assigned S.s S.bound a span p z wa))
@@ -149,7 +150,7 @@ module _ (S : Site) where
         (λ v u2 xd hd at4 rest4. to_value S t n w y c 40 old u2 xd hd (rest4 t (eqb_less t (n + 1) (omega (arith, tn))) ∙ rest3 t (eqb_less t (n + 1) (omega (arith, tn))) (eqb_less t (n + 1) (omega (arith, tn))) ∙ at2)))))
 
   pub step_sim : (o : StepOp) (a : TExprT) → Follow S a → is_structure (type_of a) ≡ false → (span : Span) (t n m : ℕ) (c : NodesT ℕ) (w : World) (y : Side) → scratch ≤ t → t < n → Fit w y → Room S (base_of w y) m (sizes h a)
-      → SimV (goal false t n w y) (R c) false (src.step_taken S.s S.bound o a span (evaluated S.s S.bound S.prev a (tick w))) (R (low.step_taken h o a (low.low h a) t n m c) (mk w y))
+      → SimV (goal false t n w y) (R c) false (src.step_taken S.s S.bound o a span (evaluated S.s S.bound S.prev a (tick w))) (R (coded (low.step_taken h o a (low.low h a) t n m) c) (mk w y))
   step_sim stepping.PreUp a sima nsa span t n m c w y st tn u room = fore a sima nsa stepping.PreUp span t n m c w y st tn u room
   step_sim stepping.PreDown a sima nsa span t n m c w y st tn u room = fore a sima nsa stepping.PreDown span t n m c w y st tn u room
   step_sim stepping.PostUp a sima nsa span t n m c w y st tn u room = back a sima nsa stepping.PostUp span t n m c w y st tn u room
@@ -158,15 +159,15 @@ module _ (S : Site) where
   -- ---- elements, members, casts
 
   pub index_sim : (ty : Ty) (a b : TExprT) → Follow S a → Follow S b → is_structure (type_of a) ≡ false → is_structure (type_of b) ≡ false → (span : Span) (t n m : ℕ) (c : NodesT ℕ) (w : World) (y : Side) → scratch ≤ t → t < n → Fit w y → Room S (base_of w y) m (value_sizes h a ++ value_sizes h b)
-      → SimV (goal true t n w y) (R c) true (src.index S.s S.bound ty a b span (evaluated S.s S.bound S.prev a (tick w)) (evaluated S.s S.bound S.prev b)) (R (low.index h ty a b (low.low h a) (low.low h b) t n m c) (mk w y))
+      → SimV (goal true t n w y) (R c) true (src.index S.s S.bound ty a b span (evaluated S.s S.bound S.prev a (tick w)) (evaluated S.s S.bound S.prev b)) (R (coded (low.index h ty a b (low.low h a) (low.low h b) t n m) c) (mk w y))
   index_sim ty a b sima simb nsa nsb span t n m c w y st tn u room =
       let γ = goal true t n w y in
       let σ = way_v γ (R c) true in
       let n2 : ℕ = low.second a n in
       let m2 : ℕ = low.beyond h a m in
       let n3 : ℕ = low.size_at a b n in
-      let c1 : NodesT ℕ = part.stepped (words S.s ty) t n n2 n3 c in
-      uses S γ σ 12 n (n + 1) m (tick w) y (low.value h b (low.low h b) n2 (n2 + 1) m2 c1) (begin_place S t n w y u) (above_free γ n (omega arith)) (omega arith) (omega (arith, st, tn)) (omega arith) a nsa (room_first S γ.base m (value_sizes h a) (value_sizes h b) room)
+      let c1 : NodesT ℕ = coded (part.stepped (words S.s ty) t n n2 n3) c in
+      uses S γ σ 12 n (n + 1) m (tick w) y (coded (low.value h b (low.low h b) n2 (n2 + 1) m2) c1) (begin_place S t n w y u) (above_free γ n (omega arith)) (omega arith) (omega (arith, st, tn)) (omega arith) a nsa (room_first S γ.base m (value_sizes h a) (value_sizes h b) room)
       (λ v wa. src.with_value Stops S.s S.bound b (evaluated S.s S.bound S.prev b wa) (λ d wb. asked Stops span wb (stepped (words S.s ty) v d) (λ q. Place q wb))) sima
       (λ v wa xa flag ha at below.
       uses S γ σ 40 n2 (n2 + 1) m2 wa xa c1 ha (above_free γ n2 (omega arith)) (omega arith) (omega (arith, st, tn)) (omega arith) b nsb (room_second S γ.base m (value_sizes h a) (value_sizes h b) room) (λ d wb. asked Stops span wb (stepped (words S.s ty) v d) (λ q. Place q wb)) simb
@@ -174,43 +175,43 @@ module _ (S : Site) where
 
   -- a pointer so many words behind that in n comes to t
   pub behind_sim : (γ : Goal) (σ : Way γ) (s0 : ℕ) (span : Span) (t n offset : ℕ) (p : Cell) (wa : World) (xa : Side) (c : NodesT ℕ) → Now γ (s0 + 16) wa xa → ((j : ℕ) → scratch + γ.skip ≤ j → j < γ.first → eqb j γ.at ≡ false → eqb j t ≡ false) → eqb n t ≡ false → xa.temps n ≡ p → (go : Cell → σ.R) → Sets S γ σ s0 wa xa t c go
-      → σ.T (asked σ.stop span wa (step p offset) go) (R (part.moved_by t n offset c) (mk wa xa))
+      → σ.T (asked σ.stop span wa (step p offset) go) (R (coded (part.moved_by t n offset) c) (mk wa xa))
   behind_sim γ σ s0 span t n offset p wa xa c h0 free ne e go f =
       sets S σ.T γ (s0 + 8) wa xa t (Num offset) (ConstO t offset) (Do (StepO t n t) c) (spare γ (s0 + 16) (s0 + 8 + 8) wa xa (omega arith) h0) free refl (asked σ.stop span wa (step p offset) go)
       (λ xb hb at2 rest2. op S γ σ s0 span wa xb t (step p offset) (mid.stepped (xb.temps n) (xb.temps t)) (StepO t n t) c hb free
       (same (step p offset) (mid.stepped (xb.temps n) (xb.temps t)) (step_eq p (Num offset) (xb.temps n) (xb.temps t) (rest2 n ne ∙ e) at2)) refl go (λ q xc hc at3 rest3. f q xc hc at3 (λ j nj. rest3 j nj ∙ rest2 j nj)))
 
   pub arrow_sim : (a : TExprT) → Follow S a → is_structure (type_of a) ≡ false → (span : Span) (offset t n m : ℕ) (c : NodesT ℕ) (w : World) (y : Side) → scratch ≤ t → t < n → Fit w y → Room S (base_of w y) m (value_sizes h a)
-      → SimV (goal true t n w y) (R c) true (src.arrow S.s S.bound a span offset (evaluated S.s S.bound S.prev a (tick w))) (R (low.value h a (low.low h a) n (n + 1) m (part.moved_by t n offset c)) (mk w y))
+      → SimV (goal true t n w y) (R c) true (src.arrow S.s S.bound a span offset (evaluated S.s S.bound S.prev a (tick w))) (R (coded (low.value h a (low.low h a) n (n + 1) m) (coded (part.moved_by t n offset) c)) (mk w y))
   arrow_sim a sima nsa span offset t n m c w y st tn u room =
       let γ = goal true t n w y in
       let σ = way_v γ (R c) true in
-      uses S γ σ 12 n (n + 1) m (tick w) y (part.moved_by t n offset c) (begin_place S t n w y u) (above_free γ n (omega arith)) (omega arith) (omega (arith, st, tn)) (omega arith) a nsa room (λ p wa. asked Stops span wa (step p offset) (λ q. Place q wa)) sima
+      uses S γ σ 12 n (n + 1) m (tick w) y (coded (part.moved_by t n offset) c) (begin_place S t n w y u) (above_free γ n (omega arith)) (omega arith) (omega (arith, st, tn)) (omega arith) a nsa room (λ p wa. asked Stops span wa (step p offset) (λ q. Place q wa)) sima
       (λ p wa xa flag ha at below. behind_sim γ σ 24 span t n offset p wa xa c ha (at_free γ) (eqb_more n t tn) at (λ q. Place q wa) (λ q xc hc at3 rest3. to_place S t n w y c 24 q wa xc hc at3))
 
   -- a member of a place
   pub member_sim : (ty : Ty) (a : TExprT) → Follow S a → is_place a ≡ true → (span : Span) (offset t n m : ℕ) (c : NodesT ℕ) (w : World) (y : Side) → scratch ≤ t → t < n → Fit w y → Room S (base_of w y) m (sizes h a)
-      → SimV (goal true t n w y) (R c) true (src.member_at ty a span offset (evaluated S.s S.bound S.prev a (tick w))) (R (low.low h a n (n + 1) m (part.moved_by t n offset c)) (mk w y))
+      → SimV (goal true t n w y) (R c) true (src.member_at ty a span offset (evaluated S.s S.bound S.prev a (tick w))) (R (coded (low.low h a n (n + 1) m) (coded (part.moved_by t n offset) c)) (mk w y))
   member_sim ty a sima placed span offset t n m c w y st tn u room =
-      by (evaluated S.s S.bound S.prev a (tick w)) (R (low.low h a n (n + 1) m (part.moved_by t n offset c)) (mk w y))
-      (subst (λ b. SimV (goal b n (n + 1) (tick w) y) (R (part.moved_by t n offset c)) b (evaluated S.s S.bound S.prev a (tick w)) (R (low.low h a n (n + 1) m (part.moved_by t n offset c)) (mk w y))) placed (sima n (n + 1) m (part.moved_by t n offset c) (tick w) y (omega (arith, st, tn)) (omega arith) u room))
+      by (evaluated S.s S.bound S.prev a (tick w)) (R (coded (low.low h a n (n + 1) m) (coded (part.moved_by t n offset) c)) (mk w y))
+      (subst (λ b. SimV (goal b n (n + 1) (tick w) y) (R (coded (part.moved_by t n offset) c)) b (evaluated S.s S.bound S.prev a (tick w)) (R (coded (low.low h a n (n + 1) m) (coded (part.moved_by t n offset) c)) (mk w y))) placed (sima n (n + 1) m (coded (part.moved_by t n offset) c) (tick w) y (omega (arith, st, tn)) (omega arith) u room))
     where
-      by : (r : Val) (q : Res Mid) → SimV (goal true n (n + 1) (tick w) y) (R (part.moved_by t n offset c)) true r q → SimV (goal true t n w y) (R c) true (src.member_at ty a span offset r) q
+      by : (r : Val) (q : Res Mid) → SimV (goal true n (n + 1) (tick w) y) (R (coded (part.moved_by t n offset) c)) true r q → SimV (goal true t n w y) (R c) true (src.member_at ty a span offset r) q
       by (Place p wa) q k =
           let γ = goal true t n w y in
           let σ = way_v γ (R c) true in
-          bind_place γ (R c) true 12 n (n + 1) (tick w) y (R (part.moved_by t n offset c)) (begin_place S t n w y u) (above_free γ n (omega arith)) (omega arith) (R_grows (part.moved_by t n offset c)) true span (Place p wa) q k (λ p2 wb. asked Stops span wb (step p2 offset) (λ r. Place r wb))
+          bind_place γ (R c) true 12 n (n + 1) (tick w) y (R (coded (part.moved_by t n offset) c)) (begin_place S t n w y u) (above_free γ n (omega arith)) (omega arith) (R_grows (coded (part.moved_by t n offset) c)) true span (Place p wa) q k (λ p2 wb. asked Stops span wb (step p2 offset) (λ r. Place r wb))
           (λ p2 wb xb er hb at below. behind_sim γ σ 48 span t n offset p2 wb xb c hb (at_free γ) (eqb_more n t tn) at (λ r. Place r wb) (λ r xc hc at3 rest3. to_place S t n w y c 48 r wb xc hc at3))
       by (Value p wa) q k = absurd (false≢true (sym k.0))
       by (NoValue wa) q k = absurd (false≢true (sym k.0))
-      by (Stops f wa) q k = bind_place (goal true t n w y) (R c) true 12 n (n + 1) (tick w) y (R (part.moved_by t n offset c)) (begin_place S t n w y u) (above_free (goal true t n w y) n (omega arith)) (omega arith) (R_grows (part.moved_by t n offset c)) true span (Stops f wa) q k (λ p2 wb. Place p2 wb) (λ p2 wb xb er hb at below. absurd (no_stop f wa p2 wb er))
+      by (Stops f wa) q k = bind_place (goal true t n w y) (R c) true 12 n (n + 1) (tick w) y (R (coded (part.moved_by t n offset) c)) (begin_place S t n w y u) (above_free (goal true t n w y) n (omega arith)) (omega arith) (R_grows (coded (part.moved_by t n offset) c)) true span (Stops f wa) q k (λ p2 wb. Place p2 wb) (λ p2 wb xb er hb at below. absurd (no_stop f wa p2 wb er))
 
   pub cast_sim : (ty : Ty) (a : TExprT) → Follow S a → is_structure (type_of a) ≡ false → (span : Span) (t n m : ℕ) (c : NodesT ℕ) (w : World) (y : Side) → scratch ≤ t → t < n → Fit w y → Room S (base_of w y) m (value_sizes h a)
-      → SimV (goal false t n w y) (R c) false (src.with_value Stops S.s S.bound a (evaluated S.s S.bound S.prev a (tick w)) (λ d v. asked Stops span v (converted ty d) (λ z. Value z v))) (R (low.value h a (low.low h a) t n m (part.converted ty (is_flag a) t c)) (mk w y))
+      → SimV (goal false t n w y) (R c) false (src.with_value Stops S.s S.bound a (evaluated S.s S.bound S.prev a (tick w)) (λ d v. asked Stops span v (converted ty d) (λ z. Value z v))) (R (coded (low.value h a (low.low h a) t n m) (coded (part.converted ty (is_flag a) t) c)) (mk w y))
   cast_sim ty a sima nsa span t n m c w y st tn u room =
       let γ = goal false t n w y in
       let σ = way_v γ (R c) false in
-      uses S γ σ 36 t n m (tick w) y (part.converted ty (is_flag a) t c) (begin_value S t n w y u) (at_free γ) (omega arith) st tn a nsa room (λ d v. asked Stops span v (converted ty d) (λ z. Value z v)) sima
+      uses S γ σ 36 t n m (tick w) y (coded (part.converted ty (is_flag a) t) c) (begin_value S t n w y u) (at_free γ) (omega arith) st tn a nsa room (λ d v. asked Stops span v (converted ty d) (λ z. Value z v)) sima
       (λ d wa xa flag ha at below. converts S γ σ span wa 56 xa ty (is_flag a) t d c ha (at_free γ) at flag (λ z. Value z wa) (λ z xb hb at2 rest. to_value S t n w y c 56 z wa xb hb at2))
 
   -- ---- ports
@@ -233,7 +234,7 @@ module _ (S : Site) where
       (now_work γ 20 20 v v (set t (Num i) (paid y)) (y.work + 8) refl (omega (arith, h1.cost)) (set_now γ 20 v (paid y) t (Num i) (at_free γ) h1)) (put_at y.temps t (Num i))
 
   pub output_sim : (port : ℕ) (a : TExprT) → Follow S a → is_structure (type_of a) ≡ false → (t n m : ℕ) (c : NodesT ℕ) (w : World) (y : Side) → scratch ≤ t → t < n → Fit w y → Room S (base_of w y) m (value_sizes h a)
-      → SimV (goal false t n w y) (R c) false (src.output S.s S.bound port a (evaluated S.s S.bound S.prev a (tick w))) (R (low.value h a (low.low h a) t n m (Do (OutO port t) c)) (mk w y))
+      → SimV (goal false t n w y) (R c) false (src.output S.s S.bound port a (evaluated S.s S.bound S.prev a (tick w))) (R (coded (low.value h a (low.low h a) t n m) (Do (OutO port t) c)) (mk w y))
   output_sim port a sima nsa t n m c w y st tn u room =
       let γ = goal false t n w y in
       let σ = way_v γ (R c) false in

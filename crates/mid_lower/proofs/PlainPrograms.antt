@@ -11,8 +11,8 @@ use Rattle.mid_code.specs.States.{no_function, function_at}
 use Rattle.lower_trees.specs.Shape.{Shape, shape}
 use Rattle.lower_trees.specs.Counts.{stmts_sizes}
 use Rattle.lower_trees.specs.Parts.{first_param}
+use Rattle.lower_trees.specs.Lowered.{lowered, args_from, with_result, low_function}
 use Rattle.c_types.specs.Kinds.{is_void}
-use Rattle.lower_trees.specs.Lowered.{low_function, lowered, args_from, with_result}
 use Rattle.mid_lower.proofs.Trees.{PlainStmts, Below}
 use Rattle.mid_lower.proofs.Fits.{Fits}
 use Rattle.mid_lower.proofs.EveryBound.{Lowers}

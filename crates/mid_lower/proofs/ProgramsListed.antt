@@ -9,14 +9,12 @@ use Rattle.c_types.specs.View.{tstmts}
 use Rattle.mid_code.specs.Code.{FunctionT}
 use Rattle.lower_trees.specs.Shape.{Shape, shape}
 use Rattle.lower_trees.specs.Parts.{first_param}
+use Rattle.lower_trees.specs.Statements.{ToEnd, low_stmts}
+use Rattle.lower_trees.specs.ListedFunctions.{IsFew, AreFew}
 use Rattle.lower_trees.specs.Counts.{stmts_temps, stmts_sizes}
-use Rattle.lower_trees.specs.Statements.{ToEnd}
 use Rattle.lower_trees.specs.Lowered as c
 use Rattle.lower_trees.specs.ListedFunctions as l
-use Rattle.lower_trees.specs.ListedFunctions.{IsFew, AreFew}
 use Rattle.mid_lower.proofs.Onto.{whole}
-use Rattle.mid_lower.proofs.StatementsListed.{stmts_is}
-use Rattle.mid_lower.proofs.FunctionsListed.{body_is}
 use Rattle.mid_lower.proofs.Counted.{stmts_few, stmts_sizes_few}
 
 pub function_listed : (h : Shape) (f : TFunctionT) → l.low_function h f ≡ c.low_function h f
@@ -25,7 +23,7 @@ function_listed h f = λ i. record {
   params = c.with_result f.gives (c.args_from first_param f.params);
   locals = f.locals ++ stmts_sizes h f.body;
   gives = (c.low_function h f).gives;
-  body = body_is h f i;
+  body = whole (c.low_body h f) i;
 }
 
 pub functions_listed : (h : Shape) (fs : List TFunctionT) → map (l.low_function h) fs ≡ map (c.low_function h) fs
@@ -34,7 +32,7 @@ functions_listed h (f ∷ fs) = let e = function_listed h f in let r = functions
 
 pub start_listed : (p : ProgramT) → l.low_start (shape p) (tstmts p.inits) ≡ c.low_start p
 start_listed p =
-    let body = whole (stmts_is (shape p) VoidY (tstmts p.inits) first_param 0 0 (ToEnd 0)) in
+    let body = whole (low_stmts (shape p) VoidY (tstmts p.inits) first_param 0 0 (ToEnd 0)) in
     λ i. record {
       temps = first_param + stmts_temps (tstmts p.inits);
       params = [];

@@ -15,15 +15,16 @@ use Rattle.c_types.specs.Kinds.{is_structure, decayed, pointed}
 use Rattle.mid_code.specs.Code.{ConstO, LoadO, LocalO, Stop, Do, Choose, Block}
 use Rattle.lower_trees.specs.Shape.{Shape, words}
 use Rattle.lower_trees.specs.Flags.{is_flag, tests_flag}
-use Rattle.lower_trees.specs.Parts.{Nodes, as_flag, stored, operated}
-use Rattle.lower_trees.specs.Expressions.{Low, read, value_of, value, test, unary, second, beyond, size_at, binary, behind_place, assign, step_made, stepped_to, step_taken, index, member_of, called, converted_to}
+use Rattle.lower_trees.specs.Pieces.{Nodes, coded}
+use Rattle.lower_trees.specs.Parts.{as_flag, stored, operated}
+use Rattle.lower_trees.specs.Expressions.{Low, read, value_of, value, test, unary, second, beyond, size_at, binary, behind_place, assign, step_made, stepped_to, step_taken, index, member_of, called, converted_to, counts_up}
 use Rattle.mid_lower.specs.SourceLoops.{reads}
 use Rattle.mid_lower.proofs.Tallies.{Counting, tally, one_is, Spared, either_tally, copied_tally, flag_tally, converted_tally, stepped_tally, operated_tally, more_tally, less_tally, tested_tally, negated_tally, stored_tally}
 
 module _ (k : Counting) where
   -- a part that adds none
   abbrev pub Quiet : Low → Type 0
-  Quiet part = (t n m : ℕ) (c : Nodes) → tally k (part t n m c) ≡ tally k c
+  Quiet part = (t n m : ℕ) (c : Nodes) → tally k (coded (part t n m) c) ≡ tally k c
 
   -- loops do not count, or no structure is read from a place
   abbrev pub Unread : TExprT → Type 0
@@ -73,11 +74,11 @@ module _ (k : Counting) where
   unary_quiet h un.Flip x part u p t n m c = value_quiet h x part (u refl) p t n m _
 
   plain_quiet : (h : Shape) (op : BinOp) (x y : TExprT) (first last : Low) → Unread x → Unread y → Quiet first → Quiet last → (t n m : ℕ) (c : Nodes)
-      → tally k (value h x first n (n + 1) m (value h y last (second x n) (second x n + 1) (beyond h x m) (operated h op (type_of x) (type_of y) t n (second x n) (size_at x y n) c))) ≡ tally k c
+      → tally k (coded (value h x first n (n + 1) m) (coded (value h y last (second x n) (second x n + 1) (beyond h x m)) (coded (operated h op (type_of x) (type_of y) t n (second x n) (size_at x y n)) c))) ≡ tally k c
   plain_quiet h op x y first last u v p q t n m c =
       value_quiet h x first u p n (n + 1) m _ ∙ (value_quiet h y last v q (second x n) (second x n + 1) (beyond h x m) _ ∙ operated_tally k h op (type_of x) (type_of y) t n (second x n) (size_at x y n) c)
 
-  inner_quiet : (h : Shape) (y : TExprT) (last : Low) → Unread y → Quiet last → (t n m : ℕ) → tally k (test h y last t n m (as_flag (tests_flag y) t Stop)) ≡ zero
+  inner_quiet : (h : Shape) (y : TExprT) (last : Low) → Unread y → Quiet last → (t n m : ℕ) → tally k (coded (test h y last t n m) (coded (as_flag (tests_flag y) t) Stop)) ≡ zero
   inner_quiet h y last v q t n m = test_quiet h y last v q t n m _ ∙ flag_tally k (tests_flag y) t Stop
 
   pub choose_quiet : (t : ℕ) (a b c : Nodes) → tally k a ≡ zero → tally k b ≡ zero → tally k (Choose t a b c) ≡ tally k c
@@ -88,9 +89,9 @@ module _ (k : Counting) where
 
   pub binary_quiet : (h : Shape) (op : BinOp) (x y : TExprT) (first last : Low) → Unread x → Unread y → Quiet first → Quiet last → Quiet (binary h op x y first last)
   binary_quiet h bin.AndAlso x y first last u v p q t n m c =
-      test_quiet h x first u p t n m _ ∙ choose_quiet t (test h y last t (second x n) (beyond h x m) (as_flag (tests_flag y) t Stop)) (Do (ConstO t 0) Stop) c (inner_quiet h y last v q t (second x n) (beyond h x m)) refl
+      test_quiet h x first u p t n m _ ∙ choose_quiet t (coded (test h y last t (second x n) (beyond h x m)) (coded (as_flag (tests_flag y) t) Stop)) (Do (ConstO t 0) Stop) c (inner_quiet h y last v q t (second x n) (beyond h x m)) refl
   binary_quiet h bin.OrElse x y first last u v p q t n m c =
-      test_quiet h x first u p t n m _ ∙ choose_quiet t (Do (ConstO t 1) Stop) (test h y last t (second x n) (beyond h x m) (as_flag (tests_flag y) t Stop)) c refl (inner_quiet h y last v q t (second x n) (beyond h x m))
+      test_quiet h x first u p t n m _ ∙ choose_quiet t (Do (ConstO t 1) Stop) (coded (test h y last t (second x n) (beyond h x m)) (coded (as_flag (tests_flag y) t) Stop)) c refl (inner_quiet h y last v q t (second x n) (beyond h x m))
   binary_quiet h bin.Mul x y first last u v p q t n m c = plain_quiet h bin.Mul x y first last u v p q t n m c
   binary_quiet h bin.Div x y first last u v p q t n m c = plain_quiet h bin.Div x y first last u v p q t n m c
   binary_quiet h bin.Mod x y first last u v p q t n m c = plain_quiet h bin.Mod x y first last u v p q t n m c
@@ -110,17 +111,17 @@ module _ (k : Counting) where
 
   pub assign_quiet : (h : Shape) (op : Option BinOp) (x y : TExprT) (first last : Low) → Spared k (is_structure (type_of x)) → Unread y → Quiet first → Quiet last → Quiet (assign h op x y first last)
   assign_quiet h None x y first last s v p q t n m c =
-      p n (n + 1) m _ ∙ (value_quiet h y last v q t (behind_place x n + 2) _ _ ∙ (converted_tally k (type_of x) (is_flag y) t (stored h (type_of x) n t c) ∙ stored_tally k h (type_of x) n t c s))
+      p n (n + 1) m _ ∙ (value_quiet h y last v q t (behind_place x n + 2) _ _ ∙ (converted_tally k (type_of x) (is_flag y) t (coded (stored h (type_of x) n t) c) ∙ stored_tally k h (type_of x) n t c s))
   assign_quiet h (Some op) x y first last s v p q t n m c =
       p n (n + 1) m _ ∙ (value_quiet h y last v q (behind_place x n) (behind_place x n + 2) _ _ ∙ (operated_tally k h op (type_of x) (type_of y) t t (behind_place x n) (behind_place x n + 1) _ ∙ converted_tally k (type_of x) false t _))
 
-  step_made_tally : (h : Shape) (op : StepOp) (ty : Ty) (new old by : ℕ) (c : Nodes) → tally k (step_made h op ty new old by c) ≡ tally k c
+  step_made_tally : (h : Shape) (op : StepOp) (ty : Ty) (new old by : ℕ) (c : Nodes) → tally k (coded (step_made h (counts_up op) ty new old by) c) ≡ tally k c
   step_made_tally h PreUp ty new old by c = more_tally k h (pointed (decayed ty)) new old by c
   step_made_tally h PostUp ty new old by c = more_tally k h (pointed (decayed ty)) new old by c
   step_made_tally h PreDown ty new old by c = less_tally k h (pointed (decayed ty)) new old by c
   step_made_tally h PostDown ty new old by c = less_tally k h (pointed (decayed ty)) new old by c
 
-  stepped_to_tally : (h : Shape) (op : StepOp) (x : TExprT) (new old place : ℕ) (c : Nodes) → tally k (stepped_to h op x new old place c) ≡ tally k c
+  stepped_to_tally : (h : Shape) (op : StepOp) (x : TExprT) (new old place : ℕ) (c : Nodes) → tally k (coded (stepped_to h (counts_up op) (type_of x) new old place) c) ≡ tally k c
   stepped_to_tally h op x new old place c = step_made_tally h op (type_of x) new old (place + 1) _ ∙ converted_tally k (type_of x) false new _
 
   pub step_quiet : (h : Shape) (op : StepOp) (x : TExprT) (part : Low) → Quiet part → Quiet (step_taken h op x part)
@@ -135,13 +136,13 @@ module _ (k : Counting) where
   index_quiet h ty x y first last u v p q t n m c =
       value_quiet h x first u p n (n + 1) m _ ∙ (value_quiet h y last v q (second x n) (second x n + 1) (beyond h x m) _ ∙ stepped_tally k (words h ty) t n (second x n) (size_at x y n) c)
 
-  pub member_tally : (place : Bool) (ty : Ty) (t : ℕ) (c : Nodes) → tally k (member_of place ty t c) ≡ tally k c
+  pub member_tally : (place : Bool) (ty : Ty) (t : ℕ) (c : Nodes) → tally k (coded (member_of place ty t) c) ≡ tally k c
   member_tally true ty t c = refl
   member_tally false ty t c = either_tally k (is_structure ty) _ _ (tally k c) refl refl
 
-  pub called_tally : (ty : Ty) (f local t : ℕ) (args : List ℕ) (c : Nodes) → k.call f ≡ 0 → tally k (called ty f local t args c) ≡ tally k c
+  pub called_tally : (ty : Ty) (f local t : ℕ) (args : List ℕ) (c : Nodes) → k.call f ≡ 0 → tally k (coded (called ty f local t args) c) ≡ tally k c
   called_tally ty f local t args c e = either_tally k (is_structure ty) _ _ (tally k c) (omega (arith, e)) (omega (arith, e))
 
-  pub given_tally : (tys : List Ty) (known : Bool) (t : ℕ) (c : Nodes) → tally k (converted_to tys known t c) ≡ tally k c
+  pub given_tally : (tys : List Ty) (known : Bool) (t : ℕ) (c : Nodes) → tally k (coded (converted_to tys known t) c) ≡ tally k c
   given_tally [] known t c = refl
   given_tally (ty ∷ tys) known t c = converted_tally k ty known t c

@@ -27,6 +27,7 @@ use Rattle.mid_code.specs.Runs as mid
 use Rattle.mid_code.specs.Keeps.{WorksAtMost, KeepsRuns, KeepsRun, SameRun, global_cell}
 use Rattle.mid_code.specs.inner.Passing.{Prefix}
 use Rattle.lower_trees.specs.Shape.{shape}
+use Rattle.lower_trees.specs.Pieces.{coded}
 use Rattle.lower_trees.specs.Parts.{first_param}
 use Rattle.lower_trees.specs.Statements.{ToEnd, low_stmts}
 use Rattle.lower_trees.specs.Lowered.{lowered}
@@ -213,7 +214,7 @@ module _ (p : ProgramT) (frames : List ℕ) (sc : IsPlain p) where
     -- the code of a program runs as the program does, for every bound, answers and card
     follows : Agree (c.final_of p frames n answers card).end (c.final_of p frames n answers card).world (mid.final_of temporaries x frames n answers card)
     follows =
-        started (does_all s n S.prev Unwritten (tstmts p.inits) w0) (M S (low_stmts (shape p) VoidY (tstmts p.inits) first_param 0 0 (ToEnd 0) Stop) (mk w0 x0))
+        started (does_all s n S.prev Unwritten (tstmts p.inits) w0) (M S (coded (low_stmts (shape p) VoidY (tstmts p.inits) first_param 0 0 (ToEnd 0)) Stop) (mk w0 x0))
         (all_sim S before Unwritten VoidY 0 (tstmts p.inits) sc.inits first_param 0 0 (ToEnd 0) Stop w0 x0 (omega arith) (record { under = under_self w0.store.objects (opening_empty (map (λ g. g.1) p.globals) p.literals card); unused = λ i le. tt }) (λ e. absurd (false≢true e)) home refl (subst (Room S (base_of w0 x0) 0) (sym sc.quiet) (record { free = omega arith; fits = omega arith; words = λ j lt. absurd (omega (arith, lt)) })))
 
 -- ---- the public statement on work

@@ -1,7 +1,7 @@
 -- The lowered code of a sound program keeps its runs.
 use Rattle.std.proofs.Common.{◌≡◌, ℕ, zero, suc, ◌≤◌, true, false, List, [], ◌∷◌, length, sum_by, slice_get, Option, Some, None, refl, subst, arith}
 use Rattle.std.proofs.lemmas.List.Sums.{sum_by-cons}
-use Rattle.c_types.specs.Types.{Ty, VoidY, IntY, BoolY, EnumY, StructY, UnionY, PointerY, ArrayY}
+use Rattle.c_types.specs.Types.{VoidY}
 use Rattle.c_types.specs.Typed.{TStmtT, BlockZ, EmptyZ, VarsZ, DoZ, IfZ, WhileZ, DoWhileZ, ForZ, SwitchZ, ReturnZ, BreakZ, ContinueZ}
 use Rattle.c_types.specs.View.{tstmts}
 use Rattle.c_types.specs.Nodes.{statements_nodes, function_nodes, program_nodes}

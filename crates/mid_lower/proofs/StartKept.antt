@@ -19,10 +19,11 @@ use Rattle.mid_code.specs.Code.{Stop}
 use Rattle.mid_code.specs.Invariants.{CallsNone}
 use Rattle.lower_trees.specs.Shape.{Shape, words, literal_words}
 use Rattle.lower_trees.specs.Flags.{is_flag, tests_flag}
-use Rattle.lower_trees.specs.Parts.{Nodes, item, copied, zeroed, as_flag, converted, with_word, stepped, with_pointer, operated_on, operated, tested_as, negated_as}
-use Rattle.lower_trees.specs.Counts.{read_sizes, unary_sizes, sizes, value_sizes, init_temps, init_sizes, inits_sizes, vars_sizes, behind_address}
+use Rattle.lower_trees.specs.Pieces.{Nodes, coded}
+use Rattle.lower_trees.specs.Parts.{item, copied, zeroed, as_flag, converted, with_word, stepped, with_pointer, operated_on, operated, tested_as, negated_as}
 use Rattle.lower_trees.specs.Expressions.{value_of, value, test, unary, binary, second, beyond, size_at, low, low_value}
 use Rattle.lower_trees.specs.Initialisers.{part_at, cell_filled, part_filled, part_zeroed, low_text, low_rest, low_init, low_inits, address_of, object_to, low_vars}
+use Rattle.lower_trees.specs.Counts.{read_sizes, unary_sizes, sizes, value_sizes, init_temps, init_sizes, inits_sizes, vars_sizes, behind_address}
 
 -- ---- a part that calls nothing
 
@@ -39,19 +40,19 @@ hush_either : {f g : Nodes → Nodes} (b : Bool) → Quiet f → Quiet g → Qui
 hush_either true p q = p
 hush_either false p q = q
 
-copied_quiet : (size : ℕ) → Quiet (copied size)
+copied_quiet : (size : ℕ) → Quiet (coded (copied size))
 copied_quiet zero = record { quiet = λ c z. z }
 copied_quiet (suc left) = record { quiet = λ c z. ((tt, tt, tt), z) }
 
-zeroed_quiet : (size : ℕ) → Quiet (zeroed size)
+zeroed_quiet : (size : ℕ) → Quiet (coded (zeroed size))
 zeroed_quiet zero = record { quiet = λ c z. z }
 zeroed_quiet (suc left) = record { quiet = λ c z. ((tt, tt, tt), z) }
 
-as_flag_quiet : (known : Bool) (t : ℕ) → Quiet (as_flag known t)
+as_flag_quiet : (known : Bool) (t : ℕ) → Quiet (coded (as_flag known t))
 as_flag_quiet true t = record { quiet = λ c z. z }
 as_flag_quiet false t = record { quiet = λ c z. z }
 
-converted_quiet : (ty : Ty) (known : Bool) (t : ℕ) → Quiet (converted ty known t)
+converted_quiet : (ty : Ty) (known : Bool) (t : ℕ) → Quiet (coded (converted ty known t))
 converted_quiet BoolY known t = as_flag_quiet known t
 converted_quiet VoidY known t = record { quiet = λ c z. z }
 converted_quiet IntY known t = record { quiet = λ c z. z }
@@ -61,7 +62,7 @@ converted_quiet (UnionY k) known t = record { quiet = λ c z. z }
 converted_quiet (PointerY to) known t = record { quiet = λ c z. z }
 converted_quiet (ArrayY of len) known t = record { quiet = λ c z. z }
 
-tested_quiet : (ty : Ty) (t : ℕ) → Quiet (tested_as ty t)
+tested_quiet : (ty : Ty) (t : ℕ) → Quiet (coded (tested_as ty t))
 tested_quiet VoidY t = record { quiet = λ c z. z }
 tested_quiet IntY t = record { quiet = λ c z. z }
 tested_quiet BoolY t = record { quiet = λ c z. z }
@@ -71,7 +72,7 @@ tested_quiet (UnionY k) t = record { quiet = λ c z. z }
 tested_quiet (PointerY to) t = record { quiet = λ c z. z }
 tested_quiet (ArrayY of len) t = record { quiet = λ c z. z }
 
-negated_quiet : (ty : Ty) (t : ℕ) → Quiet (negated_as ty t)
+negated_quiet : (ty : Ty) (t : ℕ) → Quiet (coded (negated_as ty t))
 negated_quiet VoidY t = record { quiet = λ c z. z }
 negated_quiet IntY t = record { quiet = λ c z. z }
 negated_quiet BoolY t = record { quiet = λ c z. z }
@@ -81,7 +82,7 @@ negated_quiet (UnionY k) t = record { quiet = λ c z. z }
 negated_quiet (PointerY to) t = record { quiet = λ c z. z }
 negated_quiet (ArrayY of len) t = record { quiet = λ c z. z }
 
-word_quiet : (op : BinOp) (t a b : ℕ) → Quiet (with_word op t a b)
+word_quiet : (op : BinOp) (t a b : ℕ) → Quiet (coded (with_word op t a b))
 word_quiet bin.Mul t a b = record { quiet = λ c z. z }
 word_quiet bin.Div t a b = record { quiet = λ c z. z }
 word_quiet bin.Mod t a b = record { quiet = λ c z. z }
@@ -101,10 +102,10 @@ word_quiet bin.BitOr t a b = record { quiet = λ c z. z }
 word_quiet bin.AndAlso t a b = record { quiet = λ c z. z }
 word_quiet bin.OrElse t a b = record { quiet = λ c z. z }
 
-stepped_quiet : (size t a b u : ℕ) → Quiet (stepped size t a b u)
+stepped_quiet : (size t a b u : ℕ) → Quiet (coded (stepped size t a b u))
 stepped_quiet size t a b u = hush_either (size == 1) (record { quiet = λ c z. z }) (record { quiet = λ c z. z })
 
-pointer_quiet : (op : BinOp) (size : ℕ) (ps : Bool) (t a b u : ℕ) → Quiet (with_pointer op size ps t a b u)
+pointer_quiet : (op : BinOp) (size : ℕ) (ps : Bool) (t a b u : ℕ) → Quiet (coded (with_pointer op size ps t a b u))
 pointer_quiet bin.Mul size ps t a b u = record { quiet = λ c z. z }
 pointer_quiet bin.Div size ps t a b u = record { quiet = λ c z. z }
 pointer_quiet bin.Mod size ps t a b u = record { quiet = λ c z. z }
@@ -125,7 +126,7 @@ pointer_quiet bin.BitOr size ps t a b u = record { quiet = λ c z. z }
 pointer_quiet bin.AndAlso size ps t a b u = record { quiet = λ c z. z }
 pointer_quiet bin.OrElse size ps t a b u = record { quiet = λ c z. z }
 
-on_quiet : (h : Shape) (op : BinOp) (ty : Option Ty) (ps : Bool) (t a b u : ℕ) → Quiet (operated_on h op ty ps t a b u)
+on_quiet : (h : Shape) (op : BinOp) (ty : Option Ty) (ps : Bool) (t a b u : ℕ) → Quiet (coded (operated_on h op ty ps t a b u))
 on_quiet h op None ps t a b u = word_quiet op t a b
 on_quiet h op (Some ty) ps t a b u = pointer_quiet op (words h ty) ps t a b u
 
@@ -134,7 +135,7 @@ on_quiet h op (Some ty) ps t a b u = pointer_quiet op (words h ty) ps t a b u
 pub record Bare (h : Shape) (x : TExprT) : Type 0 where
   pub place : is_place x ≡ false
   pub none : sizes h x ≡ []
-  pub low : (t n m : ℕ) → Quiet (low h x t n m)
+  pub low : (t n m : ℕ) → Quiet (coded (low h x t n m))
 
 pub and_first : (a b : Bool) → (a && b) ≡ true → a ≡ true
 and_first true b e = refl
@@ -151,17 +152,17 @@ no_read h x b = go (is_place x) b.place
     go true e = cc
     go false e = ap (λ ws. ws ++ []) b.none
 
-bare_value : (h : Shape) (x : TExprT) → Bare h x → (t n m : ℕ) → Quiet (value h x (low h x) t n m)
+bare_value : (h : Shape) (x : TExprT) → Bare h x → (t n m : ℕ) → Quiet (coded (value h x (low h x) t n m))
 bare_value h x b t n m = go (is_place x) b.place
   where
-    go : (p : Bool) → p ≡ false → Quiet (λ c. value_of h p (type_of x) (m + length (sizes h x)) (low h x) t n m c)
+    go : (p : Bool) → p ≡ false → Quiet (λ c. coded (value_of h p (type_of x) (m + length (sizes h x)) (low h x) t n m) c)
     go true e = cc
     go false e = b.low t n m
 
-bare_test : (h : Shape) (x : TExprT) → Bare h x → (t n m : ℕ) → Quiet (test h x (low h x) t n m)
+bare_test : (h : Shape) (x : TExprT) → Bare h x → (t n m : ℕ) → Quiet (coded (test h x (low h x) t n m))
 bare_test h x b t n m = hushed (bare_value h x b t n m) (tested_quiet (decayed (type_of x)) t)
 
-unary_low : (h : Shape) (op : UnOp) (x : TExprT) → Bare h x → is_reckoned_kind (UnaryK op x) ≡ true → (t n m : ℕ) → Quiet (unary h op x (low h x) t n m)
+unary_low : (h : Shape) (op : UnOp) (x : TExprT) → Bare h x → is_reckoned_kind (UnaryK op x) ≡ true → (t n m : ℕ) → Quiet (coded (unary h op x (low h x) t n m))
 unary_low h un.Minus x b e t n m = hushed (bare_value h x b t n m) (record { quiet = λ c z. z })
 unary_low h un.Plus x b e t n m = bare_value h x b t n m
 unary_low h un.Not x b e t n m = hushed (bare_value h x b t n m) (negated_quiet (decayed (type_of x)) t)
@@ -170,14 +171,14 @@ unary_low h un.Deref x b e t n m = cc
 unary_low h un.Address x b e t n m = cc
 
 both_quiet : (h : Shape) (op : BinOp) (x y : TExprT) → Bare h x → Bare h y → (t n m : ℕ)
-    → Quiet (λ c. value h x (low h x) n (n + 1) m (value h y (low h y) (second x n) (second x n + 1) (beyond h x m) (operated h op (type_of x) (type_of y) t n (second x n) (size_at x y n) c)))
+    → Quiet (λ c. coded (value h x (low h x) n (n + 1) m) (coded (value h y (low h y) (second x n) (second x n + 1) (beyond h x m)) (coded (operated h op (type_of x) (type_of y) t n (second x n) (size_at x y n)) c)))
 both_quiet h op x y b d t n m =
     hushed (bare_value h x b n (n + 1) m) (hushed (bare_value h y d (second x n) (second x n + 1) (beyond h x m)) (on_quiet h op (pointed (decayed (type_of x))) (is_pointer (decayed (type_of y))) t n (second x n) (size_at x y n)))
 
-last_silent : (h : Shape) (x y : TExprT) → Bare h y → (t n m : ℕ) → CallsNone (test h y (low h y) t (second x n) (beyond h x m) (as_flag (tests_flag y) t Stop))
+last_silent : (h : Shape) (x y : TExprT) → Bare h y → (t n m : ℕ) → CallsNone (coded (test h y (low h y) t (second x n) (beyond h x m)) (coded (as_flag (tests_flag y) t) Stop))
 last_silent h x y d t n m = silent (hushed (bare_test h y d t (second x n) (beyond h x m)) (as_flag_quiet (tests_flag y) t))
 
-binary_low : (h : Shape) (op : BinOp) (x y : TExprT) → Bare h x → Bare h y → (t n m : ℕ) → Quiet (binary h op x y (low h x) (low h y) t n m)
+binary_low : (h : Shape) (op : BinOp) (x y : TExprT) → Bare h x → Bare h y → (t n m : ℕ) → Quiet (coded (binary h op x y (low h x) (low h y) t n m))
 binary_low h bin.AndAlso x y b d t n m = hushed (bare_test h x b t n m) (record { quiet = λ c z. (last_silent h x y d t n m, tt, z) })
 binary_low h bin.OrElse x y b d t n m = hushed (bare_test h x b t n m) (record { quiet = λ c z. (tt, last_silent h x y d t n m, z) })
 binary_low h bin.Mul x y b d t n m = both_quiet h bin.Mul x y b d t n m
@@ -250,7 +251,7 @@ reckoned h (Typed CardK ty span) e = cc
 
 pub record Given (h : Shape) (x : TExprT) : Type 0 where
   pub none : value_sizes h x ≡ []
-  pub low : (t n m : ℕ) → Quiet (low_value h x t n m)
+  pub low : (t n m : ℕ) → Quiet (coded (low_value h x t n m))
 
 either_true : (a b c : Bool) → ((a && b) || c) ≡ true → (b ≡ true) ⊎ (c ≡ true)
 either_true true true c e = inl refl
@@ -301,29 +302,29 @@ given z h (Typed k ty span) is e = elim (either_true (is_some (constant (Typed k
 
 -- ---- initialisers
 
-part_at_quiet : (p offset : ℕ) → Quiet (part_at p offset)
+part_at_quiet : (p offset : ℕ) → Quiet (coded (part_at p offset))
 part_at_quiet p zero = record { quiet = λ c z. z }
 part_at_quiet p (suc offset) = record { quiet = λ c z. z }
 
-cell_quiet : (p offset : ℕ) → Quiet (cell_filled p offset)
+cell_quiet : (p offset : ℕ) → Quiet (coded (cell_filled p offset))
 cell_quiet p zero = record { quiet = λ c z. z }
 cell_quiet p (suc offset) = record { quiet = λ c z. z }
 
-part_quiet : (h : Shape) (ty : Ty) (p offset : ℕ) → Quiet (part_filled h ty p offset)
+part_quiet : (h : Shape) (ty : Ty) (p offset : ℕ) → Quiet (coded (part_filled h ty p offset))
 part_quiet h ty p offset =
     let q = hushed (part_at_quiet p offset) (copied_quiet (words h ty)) in
     hush_either (is_structure ty) (record { quiet = λ c z. q.quiet c z }) (cell_quiet p offset)
 
-zero_quiet : (p offset size : ℕ) → Quiet (part_zeroed p offset size)
+zero_quiet : (p offset size : ℕ) → Quiet (coded (part_zeroed p offset size))
 zero_quiet p offset zero = record { quiet = λ c z. z }
 zero_quiet p offset (suc left) = hushed (part_at_quiet p offset) (zeroed_quiet (suc left))
 
-text_quiet : (h : Shape) (number size p offset : ℕ) → Quiet (low_text h number size p offset)
+text_quiet : (h : Shape) (number size p offset : ℕ) → Quiet (coded (low_text h number size p offset))
 text_quiet h number size p offset =
     let q = hushed (part_at_quiet p offset) (hushed (copied_quiet (literal_words h number)) (zero_quiet p ((offset + literal_words h number) % 2 ^ 32) (size - literal_words h number))) in
     record { quiet = λ c z. q.quiet c z }
 
-rest_quiet : (h : Shape) (ty : Ty) (k p offset : ℕ) → Quiet (low_rest h ty k p offset)
+rest_quiet : (h : Shape) (ty : Ty) (k p offset : ℕ) → Quiet (coded (low_rest h ty k p offset))
 rest_quiet h (ArrayY of len) k p offset = zero_quiet p offset (words h of * (len - k) % 2 ^ 32)
 rest_quiet h VoidY k p offset = record { quiet = λ c z. z }
 rest_quiet h IntY k p offset = record { quiet = λ c z. z }
@@ -334,7 +335,7 @@ rest_quiet h (UnionY e) k p offset = record { quiet = λ c z. z }
 rest_quiet h (PointerY to) k p offset = record { quiet = λ c z. z }
 
 mutual
-  init_quiet : (z : Scene) (h : Shape) (g : Bool) (i : TInitT) (o : Option Ty) → FillsAs z g i o → fills_with_given i ≡ true → (ty : Ty) (p offset n m : ℕ) → Quiet (low_init h i ty p offset n m)
+  init_quiet : (z : Scene) (h : Shape) (g : Bool) (i : TInitT) (o : Option Ty) → FillsAs z g i o → fills_with_given i ≡ true → (ty : Ty) (p offset n m : ℕ) → Quiet (coded (low_init h i ty p offset n m))
   init_quiet z h g (OneI x) None is e ty p offset n m = absurd is
   init_quiet z h g (OneI x) (Some to_type) is e ty p offset n m =
       let q = given z h x (is.0).typed e in hushed (q.low item n m) (hushed (converted_quiet ty (is_flag x) item) (part_quiet h ty p offset))
@@ -342,7 +343,7 @@ mutual
   init_quiet z h g (ListI items) None is e ty p offset n m = absurd is
   init_quiet z h g (ListI items) (Some to_type) is e ty p offset n m = inits_quiet z h g items (slots_of z.layouts to_type) is.1 e ty 0 p offset n m
 
-  inits_quiet : (z : Scene) (h : Shape) (g : Bool) (items : TInitTs) (o : Slots) → FillEach z g items o → all_fill_with_given items ≡ true → (ty : Ty) (k p offset n m : ℕ) → Quiet (low_inits h items ty k p offset n m)
+  inits_quiet : (z : Scene) (h : Shape) (g : Bool) (items : TInitTs) (o : Slots) → FillEach z g items o → all_fill_with_given items ≡ true → (ty : Ty) (k p offset n m : ℕ) → Quiet (coded (low_inits h items ty k p offset n m))
   inits_quiet z h g NoI o is e ty k p offset n m = rest_quiet h ty k p offset
   inits_quiet z h g (MoreI i rest) o is e ty k p offset n m =
       hushed (init_quiet z h g i (next_slot o) is.0 (and_first (fills_with_given i) (all_fill_with_given rest) e) (part_type h.layouts ty k) p offset n m)
@@ -364,11 +365,11 @@ mutual
 
 -- ---- variables
 
-object_quiet : (g : Bool) (number t : ℕ) → Quiet (object_to g number t)
+object_quiet : (g : Bool) (number t : ℕ) → Quiet (coded (object_to g number t))
 object_quiet true number t = record { quiet = λ c z. z }
 object_quiet false number t = record { quiet = λ c z. z }
 
-pub vars_quiet : (z : Scene) (h : Shape) (g : Bool) (vs : List TVarT) → AreFilled z g vs → list_all (λ v. v.global && fills_with_given v.init) vs ≡ true → (n m : ℕ) → Quiet (low_vars h vs n m)
+pub vars_quiet : (z : Scene) (h : Shape) (g : Bool) (vs : List TVarT) → AreFilled z g vs → list_all (λ v. v.global && fills_with_given v.init) vs ≡ true → (n m : ℕ) → Quiet (coded (low_vars h vs n m))
 vars_quiet z h g [] is e n m = record { quiet = λ c z. z }
 vars_quiet z h g (v ∷ vs) is e n m =
     let first = and_first (v.global && fills_with_given v.init) (list_all (λ v. v.global && fills_with_given v.init) vs) e in

@@ -24,6 +24,7 @@ use Rattle.mid_code.specs.Code.{ConstO, OneO, TwoO, StepO, LoadO, StoreO, NodesT
 use Rattle.mid_code.specs.Meaning.{Res, did}
 use Rattle.mid_code.specs.States.{temporaries, to, to_objects, spent, one_word, two_words}
 use Rattle.mid_code.specs.States as mid
+use Rattle.lower_trees.specs.Pieces.{coded}
 use Rattle.lower_trees.specs.Shape.{Shape, shape_in}
 use Rattle.lower_trees.specs.Parts as low
 use Rattle.mid_lower.proofs.Grows.{Mid, Grows}
@@ -57,7 +58,7 @@ module _ (S : Site) where
         (λ z. asked σ.stop span w (answer_if (is_of ty z) z) go) (λ z y hy at rest. sound y (is_of ty z) z go c (f z y hy at rest)))
 
     -- the cell in a is converted
-    pub converts : (x : Side) (ty : Ty) (known : Bool) (a : ℕ) (va : Cell) (c : NodesT ℕ) → Now γ (s0 + 8) w x → Free γ a → x.temps a ≡ va → (known ≡ true → converted BoolY va ≡ Ok va) → (go : Cell → σ.R) → Sets S γ σ s0 w x a c go → σ.T (asked σ.stop span w (converted ty va) go) (R (low.converted ty known a c) (mk w x))
+    pub converts : (x : Side) (ty : Ty) (known : Bool) (a : ℕ) (va : Cell) (c : NodesT ℕ) → Now γ (s0 + 8) w x → Free γ a → x.temps a ≡ va → (known ≡ true → converted BoolY va ≡ Ok va) → (go : Cell → σ.R) → Sets S γ σ s0 w x a c go → σ.T (asked σ.stop span w (converted ty va) go) (R (coded (low.converted ty known a) c) (mk w x))
     converts x BoolY false a va c h0 free e flag go f =
         op S γ σ s0 span w x a (converted BoolY va) (one_word CIB (x.temps a)) (OneO CIB a a) c h0 free (same (converted BoolY va) (one_word CIB (x.temps a)) (ap (one_word CIB) e)) refl go f
     converts x BoolY true a va c h0 free e flag go f = subst (λ q. σ.T (asked σ.stop span w q go) (R c (mk w x))) (sym (flag refl)) (f va x (spare γ (s0 + 8) s0 w x (omega arith) h0) e (λ j ne. refl))
@@ -102,18 +103,18 @@ module _ (S : Site) where
         op S γ σ s0 span w y t (cell_binary bin.Sub va (Num 1)) (two_words ISUB (y.temps a) (y.temps u)) (TwoO ISUB t a u) c hy free (same (cell_binary bin.Sub va (Num 1)) (two_words ISUB (y.temps a) (y.temps u)) (two_eq ISUB va (Num 1) (y.temps a) (y.temps u) (rest a ne ∙ e) at ∙ same_words bin.Sub ISUB (λ i j. refl) va (Num 1))) refl go
         (λ v z hz at2 rest2. f v z hz at2 (λ j nj nu. rest2 j nj ∙ rest j nu)))
 
-    more_by : (x : Side) (type : Option Ty) (t a u : ℕ) (va : Cell) (c : NodesT ℕ) → Now γ (s0 + 24) w x → Free γ t → Free γ u → eqb a u ≡ false → x.temps a ≡ va → (go : Cell → σ.R) → Further x t u c go → σ.T (asked σ.stop span w (operated_on S.s bin.Add type false w.store.objects va (Num 1)) go) (R (low.one_more h type t a u c) (mk w x))
+    more_by : (x : Side) (type : Option Ty) (t a u : ℕ) (va : Cell) (c : NodesT ℕ) → Now γ (s0 + 24) w x → Free γ t → Free γ u → eqb a u ≡ false → x.temps a ≡ va → (go : Cell → σ.R) → Further x t u c go → σ.T (asked σ.stop span w (operated_on S.s bin.Add type false w.store.objects va (Num 1)) go) (R (coded (low.one_more h type t a u) c) (mk w x))
     more_by x None t a u va c h0 free free_u ne e go f = one_further x t a u va c h0 free free_u ne e go f
     more_by x (Some ty) t a u va c h0 free free_u ne e go f = one_up x (words S.s ty) t a u va c h0 free free_u ne e go f
 
-    less_by : (x : Side) (type : Option Ty) (t a u : ℕ) (va : Cell) (c : NodesT ℕ) → Now γ (s0 + 24) w x → Free γ t → Free γ u → eqb a u ≡ false → x.temps a ≡ va → (go : Cell → σ.R) → Further x t u c go → σ.T (asked σ.stop span w (operated_on S.s bin.Sub type false w.store.objects va (Num 1)) go) (R (low.one_less h type t a u c) (mk w x))
+    less_by : (x : Side) (type : Option Ty) (t a u : ℕ) (va : Cell) (c : NodesT ℕ) → Now γ (s0 + 24) w x → Free γ t → Free γ u → eqb a u ≡ false → x.temps a ≡ va → (go : Cell → σ.R) → Further x t u c go → σ.T (asked σ.stop span w (operated_on S.s bin.Sub type false w.store.objects va (Num 1)) go) (R (coded (low.one_less h type t a u) c) (mk w x))
     less_by x None t a u va c h0 free free_u ne e go f = one_fewer x t a u va c h0 free free_u ne e go f
     less_by x (Some ty) t a u va c h0 free free_u ne e go f = one_down x (words S.s ty) t a u va c (in_words (words_of S.s.layouts ty)) h0 free free_u ne e go f
 
-    pub ups : (x : Side) (ty : Ty) (t a u : ℕ) (va : Cell) (c : NodesT ℕ) → Now γ (s0 + 24) w x → Free γ t → Free γ u → eqb a u ≡ false → x.temps a ≡ va → (go : Cell → σ.R) → Further x t u c go → σ.T (asked σ.stop span w (operated S.s bin.Add ty IntY w.store.objects va (Num 1)) go) (R (low.one_more h (pointed (decayed ty)) t a u c) (mk w x))
+    pub ups : (x : Side) (ty : Ty) (t a u : ℕ) (va : Cell) (c : NodesT ℕ) → Now γ (s0 + 24) w x → Free γ t → Free γ u → eqb a u ≡ false → x.temps a ≡ va → (go : Cell → σ.R) → Further x t u c go → σ.T (asked σ.stop span w (operated S.s bin.Add ty IntY w.store.objects va (Num 1)) go) (R (coded (low.one_more h (pointed (decayed ty)) t a u) c) (mk w x))
     ups x ty t a u va c h0 free free_u ne e go f = more_by x (pointed (decayed ty)) t a u va c h0 free free_u ne e go f
 
-    pub downs : (x : Side) (ty : Ty) (t a u : ℕ) (va : Cell) (c : NodesT ℕ) → Now γ (s0 + 24) w x → Free γ t → Free γ u → eqb a u ≡ false → x.temps a ≡ va → (go : Cell → σ.R) → Further x t u c go → σ.T (asked σ.stop span w (operated S.s bin.Sub ty IntY w.store.objects va (Num 1)) go) (R (low.one_less h (pointed (decayed ty)) t a u c) (mk w x))
+    pub downs : (x : Side) (ty : Ty) (t a u : ℕ) (va : Cell) (c : NodesT ℕ) → Now γ (s0 + 24) w x → Free γ t → Free γ u → eqb a u ≡ false → x.temps a ≡ va → (go : Cell → σ.R) → Further x t u c go → σ.T (asked σ.stop span w (operated S.s bin.Sub ty IntY w.store.objects va (Num 1)) go) (R (coded (low.one_less h (pointed (decayed ty)) t a u) c) (mk w x))
     downs x ty t a u va c h0 free free_u ne e go f = less_by x (pointed (decayed ty)) t a u va c h0 free free_u ne e go f
 
     objects_now : (x : Side) (os os' : List ObjectT) → Now γ (s0 + 8) w x → Under os os' → Later w.store.objects os → Now γ s0 (on_store (with_objects os) w) (paid (record x { objs = os' }))

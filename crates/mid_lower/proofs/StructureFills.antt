@@ -17,6 +17,7 @@ use Rattle.c_meaning.specs.Initialisers.{filled}
 use Rattle.mid_code.specs.Code.{MoveO, NodesT, Do}
 use Rattle.mid_code.specs.Meaning.{Res}
 use Rattle.mid_code.specs.States.{temporaries, to, spent}
+use Rattle.lower_trees.specs.Pieces.{coded}
 use Rattle.lower_trees.specs.Shape.{Shape, shape_in, words}
 use Rattle.lower_trees.specs.Flags.{is_flag}
 use Rattle.lower_trees.specs.Parts as part
@@ -47,7 +48,7 @@ module _ (S : Site) (bodies : BodiesFollow S) (γ : Goal) (skips : 2 ≤ γ.skip
 
   -- the value in `item` is copied to the part and ends
   structure_filled : (ty : Ty) (known : Bool) (σ : Way γ) (s0 o p offset n hi q j : ℕ) (w : World) (x : Side) (wa : World) (xa : Side) (c : NodesT ℕ) → is_structure ty ≡ true → Taken γ (s0 + 84) hi q wa xa → xa.temps part.item ≡ Ptr q j → ((k : ℕ) → 7 ≤ k → k < n → xa.temps k ≡ x.temps k) → 7 ≤ p → p < n → x.temps p ≡ Ptr o 0 → (go : World → σ.R) → Goes S bodies γ skips σ s0 n x c go
-      → σ.T (then_went σ.stop (asked CutOff nowhere wa (converted ty (Ptr q j)) (λ z. then_went CutOff (stored S.s S.bound 1 ty nowhere (part_of o offset) z wa) (λ v. Through (on_store (released ty z) v)))) go) (R (part.converted ty known part.item (low.part_filled h ty p offset c)) (mk wa xa))
+      → σ.T (then_went σ.stop (asked CutOff nowhere wa (converted ty (Ptr q j)) (λ z. then_went CutOff (stored S.s S.bound 1 ty nowhere (part_of o offset) z wa) (λ v. Through (on_store (released ty z) v)))) go) (R (coded (part.converted ty known part.item) (coded (low.part_filled h ty p offset) c)) (mk wa xa))
   structure_filled ty known σ s0 o p offset n hi q j w x wa xa c structure hx at below le lt ep go f =
       let size : ℕ = words h ty in
       let few : size < 2 ^ 32 = in_words (words_of h.layouts ty) in
@@ -56,24 +57,24 @@ module _ (S : Site) (bodies : BodiesFollow S) (γ : Goal) (skips : 2 ≤ γ.skip
       let after : World → σ.R = λ v. go (on_store (end_temporary (Ptr q j)) v) in
       let loop : Went = cells_set nowhere (1 + 1) S.bound size (Some (Ptr q j)) (part_of o offset) wa in
       let r : σ.R = then_went σ.stop loop after in
-      subst (λ d. σ.T (then_went σ.stop (asked CutOff nowhere wa (converted ty (Ptr q j)) (λ z. then_went CutOff (stored S.s S.bound 1 ty nowhere (part_of o offset) z wa) (λ v. Through (on_store (released ty z) v)))) go) (R d (mk wa xa))) (sym (same_code S ty known part.item (low.part_filled h ty p offset c) structure))
-      (subst (λ i. σ.T (then_went σ.stop (asked CutOff nowhere wa i (λ z. then_went CutOff (stored S.s S.bound 1 ty nowhere (part_of o offset) z wa) (λ v. Through (on_store (released ty z) v)))) go) (R (low.part_filled h ty p offset c) (mk wa xa))) (sym (kept_structure S ty (Ptr q j) structure))
-      (subst (λ b. σ.T (then_went σ.stop (then_went CutOff (if b then cells_set nowhere (1 + 1) S.bound size (Some (Ptr q j)) (part_of o offset) wa else asked CutOff nowhere (spend 1 wa) (write wa.store.objects (part_of o offset) (Ptr q j)) (λ os. Through (on_store (with_objects os) (spend 1 wa)))) (λ v. Through (on_store (λ t. if b then end_temporary (Ptr q j) t else t) v))) go) (R (if b then Do (MoveO part.from part.item) (low.part_at p offset (part.copied size c)) else low.cell_filled p offset c) (mk wa xa))) (sym structure)
-      (subst (λ d. σ.T d (R (Do (MoveO part.from part.item) (low.part_at p offset (part.copied size c))) (mk wa xa))) (sym (went_went σ.stop loop (λ v. Through (on_store (end_temporary (Ptr q j)) v)) go))
-      (sets S σ.T γ1 (s0 + 76) wa xa part.from (Ptr q j) (MoveO part.from part.item) (low.part_at p offset (part.copied size c)) (spare γ1 (s0 + 84) (s0 + 76 + 8) wa xa (omega arith) (taken_here γ (s0 + 84) hi (q ∷ []) wa xa hx)) (low_free γ1 part.from (omega arith)) (ap (λ z. to temporaries part.from (Ok z) (spent 8 (mk wa xa))) at) r (λ y hy ey rest.
-      at_part S bodies γ1 skips σ.T (s0 + 60) o p offset wa y (part.copied size c) (spare γ1 (s0 + 76) (s0 + 60 + 16) wa y (omega arith) hy) le (rest p (eqb_more p part.from (omega (arith, le))) ∙ below p le lt ∙ ep) r (λ z hz ez rest2.
+      subst (λ d. σ.T (then_went σ.stop (asked CutOff nowhere wa (converted ty (Ptr q j)) (λ z. then_went CutOff (stored S.s S.bound 1 ty nowhere (part_of o offset) z wa) (λ v. Through (on_store (released ty z) v)))) go) (R d (mk wa xa))) (sym (same_code S ty known part.item (coded (low.part_filled h ty p offset) c) structure))
+      (subst (λ i. σ.T (then_went σ.stop (asked CutOff nowhere wa i (λ z. then_went CutOff (stored S.s S.bound 1 ty nowhere (part_of o offset) z wa) (λ v. Through (on_store (released ty z) v)))) go) (R (coded (low.part_filled h ty p offset) c) (mk wa xa))) (sym (kept_structure S ty (Ptr q j) structure))
+      (subst (λ b. σ.T (then_went σ.stop (then_went CutOff (if b then cells_set nowhere (1 + 1) S.bound size (Some (Ptr q j)) (part_of o offset) wa else asked CutOff nowhere (spend 1 wa) (write wa.store.objects (part_of o offset) (Ptr q j)) (λ os. Through (on_store (with_objects os) (spend 1 wa)))) (λ v. Through (on_store (λ t. if b then end_temporary (Ptr q j) t else t) v))) go) (R (if b then Do (MoveO part.from part.item) (coded (low.part_at p offset) (coded (part.copied size) c)) else coded (low.cell_filled p offset) c) (mk wa xa))) (sym structure)
+      (subst (λ d. σ.T d (R (Do (MoveO part.from part.item) (coded (low.part_at p offset) (coded (part.copied size) c))) (mk wa xa))) (sym (went_went σ.stop loop (λ v. Through (on_store (end_temporary (Ptr q j)) v)) go))
+      (sets S σ.T γ1 (s0 + 76) wa xa part.from (Ptr q j) (MoveO part.from part.item) (coded (low.part_at p offset) (coded (part.copied size) c)) (spare γ1 (s0 + 84) (s0 + 76 + 8) wa xa (omega arith) (taken_here γ (s0 + 84) hi (q ∷ []) wa xa hx)) (low_free γ1 part.from (omega arith)) (ap (λ z. to temporaries part.from (Ok z) (spent 8 (mk wa xa))) at) r (λ y hy ey rest.
+      at_part S bodies γ1 skips σ.T (s0 + 60) o p offset wa y (coded (part.copied size) c) (spare γ1 (s0 + 76) (s0 + 60 + 16) wa y (omega arith) hy) le (rest p (eqb_more p part.from (omega (arith, le))) ∙ below p le lt ∙ ep) r (λ z hz ez rest2.
       copies S γ1 nowhere 2 (omega arith) σ1 (s0 + 44) size (omega (arith, few)) (Ptr q j) (part_of o offset) wa z c (spare γ1 (s0 + 60) (s0 + 44 + 16) wa z (omega arith) hz) (rest2 part.from refl ∙ ey) ez after (λ v u hu others.
       f (on_store (end_temporary (Ptr q j)) v) (back_to γ.base.floor u)
       (spare γ (s0 + 44 + 16) s0 (on_store (end_temporary (Ptr q j)) v) (back_to γ.base.floor u) (omega arith) (taken_left γ (s0 + 44 + 16) hi q j v u (taken_on γ (s0 + 84) (s0 + 44 + 16) hi (q ∷ []) wa xa v u hx hu)))
       (λ k g l. others k (omega (arith, g)) ∙ rest2 k (eqb_more k part.to (omega (arith, g))) ∙ rest k (eqb_more k part.from (omega (arith, g))) ∙ below k g l))))))))
 
   pub one_structure : (e : TExprT) (ty : Ty) → FollowValue S e → is_structure ty ≡ true → (σ : Way γ) (s0 o p offset n m : ℕ) (w : World) (x : Side) (c : NodesT ℕ) → Now γ s0 w x → 7 ≤ p → p < n → γ.first ≤ n → Room S γ.base m (value_sizes h e) → x.temps p ≡ Ptr o 0 → (go : World → σ.R) → Goes S bodies γ skips σ s0 n x c go
-      → σ.T (then_went σ.stop (filled S.s S.bound S.prev (OneI e) ty (part_of o offset) w) go) (R (low.low_init h (OneI e) ty p offset n m c) (mk w x))
+      → σ.T (then_went σ.stop (filled S.s S.bound S.prev (OneI e) ty (part_of o offset) w) go) (R (coded (low.low_init h (OneI e) ty p offset n m) c) (mk w x))
   one_structure e ty sim structure σ s0 o p offset n m w x c hn le lt first room ep go f =
-      let cc : NodesT ℕ = part.converted ty (is_flag e) part.item (low.part_filled h ty p offset c) in
+      let cc : NodesT ℕ = coded (part.converted ty (is_flag e) part.item) (coded (low.part_filled h ty p offset) c) in
       let hi : ℕ = m + length (value_sizes h e) in
       let hw = worked S bodies γ skips s0 w x hn in
-      value_then γ (way_went γ σ go) (s0 + 64) part.item n hi (spend 1 w) x (R cc) hw (low_free γ part.item (omega (arith, skips))) first (R_grows cc) (span_of e) (value_of S.s S.bound e (evaluated S.s S.bound S.prev e (spend 1 w))) (R (low.low_init h (OneI e) ty p offset n m c) (mk w x))
+      value_then γ (way_went γ σ go) (s0 + 64) part.item n hi (spend 1 w) x (R cc) hw (low_free γ part.item (omega (arith, skips))) first (R_grows cc) (span_of e) (value_of S.s S.bound e (evaluated S.s S.bound S.prev e (spend 1 w))) (R (coded (low.low_init h (OneI e) ty p offset n m) c) (mk w x))
       (sim part.item n m cc (spend 1 w) x (omega arith) (omega (arith, le, lt)) hw.stays.fit (room_at S γ.base m (value_sizes h e) (spend 1 w) x room hw.stays))
       (λ d u. asked CutOff nowhere u (converted ty d) (λ z. then_went CutOff (stored S.s S.bound 1 ty nowhere (part_of o offset) z u) (λ v. Through (on_store (released ty z) v))))
       (λ q j wa xa hx at below. structure_filled ty (is_flag e) σ s0 o p offset n hi q j w x wa xa c structure (as_84 hi q wa xa hx) at (λ k g l. below k (omega (arith, g)) l (eqb_more k part.item (omega (arith, g)))) le lt ep go f)

@@ -21,6 +21,7 @@ use Rattle.mid_code.specs.inner.Passing.{Prefix}
 use Rattle.mid_code.specs.States.{temporaries, to, spent}
 use Rattle.lower_trees.specs.Shape.{Shape, shape_in}
 use Rattle.lower_trees.specs.Parts as part
+use Rattle.lower_trees.specs.Pieces.{coded}
 use Rattle.lower_trees.specs.Expressions.{low, value}
 use Rattle.lower_trees.specs.Expressions as low
 use Rattle.lower_trees.specs.Counts.{sizes, read_sizes, value_sizes}
@@ -51,7 +52,7 @@ module _ (S : Site) where
 
   -- mid code follows a structure's value that stands at no place
   abbrev pub FollowStructure : TExprT → Type 0
-  FollowStructure e = (t n m : ℕ) (c : NodesT ℕ) (w : World) (x : Side) → scratch ≤ t → t < n → Fit w x → Room S (base_of w x) m (sizes h e) → SimS (structure_goal t n w x) (R c) (m + length (sizes h e)) (evaluated S.s S.bound S.prev e w) (R (low h e t n m c) (mk w x))
+  FollowStructure e = (t n m : ℕ) (c : NodesT ℕ) (w : World) (x : Side) → scratch ≤ t → t < n → Fit w x → Room S (base_of w x) m (sizes h e) → SimS (structure_goal t n w x) (R c) (m + length (sizes h e)) (evaluated S.s S.bound S.prev e w) (R (coded (low h e t n m) c) (mk w x))
 
   -- it is the value
   pub of_structure : (e : TExprT) → is_place e ≡ false → FollowStructure e → FollowValue S e
@@ -59,8 +60,8 @@ module _ (S : Site) where
       let hi : ℕ = m + length (sizes h e) in
       let hv : ℕ = m + length (value_sizes h e) in
       let l = join_length (sizes h e) (read_sizes h (is_place e) (type_of e)) in
-      subst (λ d. SimS (structure_goal t n w x) (R c) hv (value_of S.s S.bound e (evaluated S.s S.bound S.prev e w)) (R d (mk w x))) (ap (λ b. low.value_of h b (type_of e) hi (low h e) t n m c) (sym place))
-      (by hi hv (omega (arith, l)) (evaluated S.s S.bound S.prev e w) (R (low h e t n m c) (mk w x)) (sim t n m c w x st tn fit (room_first S (base_of w x) m (sizes h e) (read_sizes h (is_place e) (type_of e)) room)))
+      subst (λ d. SimS (structure_goal t n w x) (R c) hv (value_of S.s S.bound e (evaluated S.s S.bound S.prev e w)) (R d (mk w x))) (ap (λ b. coded (low.value_of h b (type_of e) hi (low h e) t n m) c) (sym place))
+      (by hi hv (omega (arith, l)) (evaluated S.s S.bound S.prev e w) (R (coded (low h e t n m) c) (mk w x)) (sim t n m c w x st tn fit (room_first S (base_of w x) m (sizes h e) (read_sizes h (is_place e) (type_of e)) room)))
     where
       by : (hi hv : ℕ) → hi ≤ hv → (r : Val) (q : Res Mid) → SimS (structure_goal t n w x) (R c) hi r q → SimS (structure_goal t n w x) (R c) hv (value_of S.s S.bound e r) q
       by hi hv le (Value d v) q a = (a.0, a.1, a.2, a.3, a.4, taken_less (structure_goal t n w x) 0 0 hi hv (a.0 ∷ []) v a.3 (omega arith) le a.5, a.6)
@@ -73,19 +74,19 @@ module _ (S : Site) where
     abbrev γ1 : Goal
     γ1 = anew γ w x
 
-    pub moved_into : {A : Type 0} (T : A → Res Mid → Type 0) (r : A) → ((y : Side) → Now γ1 s w y → y.temps t ≡ further (Ptr o j) offset → T r (R c (mk w y))) → T r (R (part.moved_by t n offset c) (mk w x))
+    pub moved_into : {A : Type 0} (T : A → Res Mid → Type 0) (r : A) → ((y : Side) → Now γ1 s w y → y.temps t ≡ further (Ptr o j) offset → T r (R c (mk w y))) → T r (R (coded (part.moved_by t n offset) c) (mk w x))
     moved_into T r f =
         sets S T γ1 (s + 8) w x t (Num offset) (ConstO t offset) (Do (StepO t n t) c) (spare γ1 (s + 16) (s + 8 + 8) w x (omega arith) (taken_here γ (s + 16) hi (o ∷ []) w x h0)) free refl r (λ y hy ey rest.
         sets S T γ1 s w y t (further (Ptr o j) offset) (StepO t n t) c hy free (ap (λ q. to temporaries t q (spent 8 (mk w y))) (step_eq (Ptr o j) (Num offset) (y.temps n) (y.temps t) (rest n ne ∙ at) ey)) r (λ z hz ez rest2. f z hz ez))
 
   -- a structure within it
   pub member_structure : (ty : Ty) (e : TExprT) → FollowStructure e → is_structure ty ≡ true → (span : Span) (offset t n m : ℕ) (c : NodesT ℕ) (w : World) (y : Side) → scratch ≤ t → t < n → Fit w y → Room S (base_of w y) m (sizes h e)
-      → SimS (structure_goal t n w y) (R c) (m + length (sizes h e)) (src.member_at ty e span offset (evaluated S.s S.bound S.prev e (tick w))) (R (low h e n (n + 1) m (part.moved_by t n offset (low.member_of false ty t c))) (mk w y))
+      → SimS (structure_goal t n w y) (R c) (m + length (sizes h e)) (src.member_at ty e span offset (evaluated S.s S.bound S.prev e (tick w))) (R (coded (low h e n (n + 1) m) (coded (part.moved_by t n offset) (coded (low.member_of false ty t) c))) (mk w y))
   member_structure ty e sim structure span offset t n m c w y st tn u room =
-      subst (λ b. SimS (structure_goal t n w y) (R c) (m + length (sizes h e)) (src.member_at ty e span offset (evaluated S.s S.bound S.prev e (tick w))) (R (low h e n (n + 1) m (part.moved_by t n offset (if b then c else Do (LoadO t t) c))) (mk w y))) (sym structure)
-      (by (evaluated S.s S.bound S.prev e (tick w)) (R (low h e n (n + 1) m (part.moved_by t n offset c)) (mk w y)) (sim n (n + 1) m (part.moved_by t n offset c) (tick w) y (omega (arith, st, tn)) (omega arith) u room))
+      subst (λ b. SimS (structure_goal t n w y) (R c) (m + length (sizes h e)) (src.member_at ty e span offset (evaluated S.s S.bound S.prev e (tick w))) (R (coded (low h e n (n + 1) m) (coded (part.moved_by t n offset) (if b then c else Do (LoadO t t) c))) (mk w y))) (sym structure)
+      (by (evaluated S.s S.bound S.prev e (tick w)) (R (coded (low h e n (n + 1) m) (coded (part.moved_by t n offset) c)) (mk w y)) (sim n (n + 1) m (coded (part.moved_by t n offset) c) (tick w) y (omega (arith, st, tn)) (omega arith) u room))
     where
-      by : (r : Val) (q : Res Mid) → SimS (structure_goal n (n + 1) (tick w) y) (R (part.moved_by t n offset c)) (m + length (sizes h e)) r q → SimS (structure_goal t n w y) (R c) (m + length (sizes h e)) (src.member_at ty e span offset r) q
+      by : (r : Val) (q : Res Mid) → SimS (structure_goal n (n + 1) (tick w) y) (R (coded (part.moved_by t n offset) c)) (m + length (sizes h e)) r q → SimS (structure_goal t n w y) (R c) (m + length (sizes h e)) (src.member_at ty e span offset r) q
       by (Value d wa) q a =
           let g = structure_goal t n w y in
           let hi : ℕ = m + length (sizes h e) in
@@ -100,17 +101,17 @@ module _ (S : Site) where
           as_64 : (g : Goal) (hi o : ℕ) (wa : World) (xa : Side) → Taken g (44 + 20) hi o wa xa → Taken g (48 + 16) hi o wa xa
           as_64 g hi o wa xa k = k
       by (Place p wa) q a = absurd a
-      by (NoValue wa) q a = subst (λ z. Prefix wa.events (events_of z)) (sym a.1) (R_grows (part.moved_by t n offset c) (mk wa a.0))
+      by (NoValue wa) q a = subst (λ z. Prefix wa.events (events_of z)) (sym a.1) (R_grows (coded (part.moved_by t n offset) c) (mk wa a.0))
       by (Stops f wa) q a = kept_wider (structure_goal t n w y) (structure_goal n (n + 1) (tick w) y) (omega arith) f wa q a
 
   -- a cell of it, after which it ends
   pub member_cell : (ty : Ty) (e : TExprT) → FollowStructure e → is_structure ty ≡ false → (span : Span) (offset t n m : ℕ) (c : NodesT ℕ) (w : World) (y : Side) → scratch ≤ t → t < n → Fit w y → Room S (base_of w y) m (sizes h e)
-      → SimV (goal false t n w y) (R c) false (src.member_at ty e span offset (evaluated S.s S.bound S.prev e (tick w))) (R (low h e n (n + 1) m (part.moved_by t n offset (low.member_of false ty t c))) (mk w y))
+      → SimV (goal false t n w y) (R c) false (src.member_at ty e span offset (evaluated S.s S.bound S.prev e (tick w))) (R (coded (low h e n (n + 1) m) (coded (part.moved_by t n offset) (coded (low.member_of false ty t) c))) (mk w y))
   member_cell ty e sim scalar span offset t n m c w y st tn u room =
-      subst (λ b. SimV (goal false t n w y) (R c) false (src.member_at ty e span offset (evaluated S.s S.bound S.prev e (tick w))) (R (low h e n (n + 1) m (part.moved_by t n offset (if b then c else Do (LoadO t t) c))) (mk w y))) (sym scalar)
-      (by (evaluated S.s S.bound S.prev e (tick w)) (R (low h e n (n + 1) m (part.moved_by t n offset (Do (LoadO t t) c))) (mk w y)) (sim n (n + 1) m (part.moved_by t n offset (Do (LoadO t t) c)) (tick w) y (omega (arith, st, tn)) (omega arith) u room))
+      subst (λ b. SimV (goal false t n w y) (R c) false (src.member_at ty e span offset (evaluated S.s S.bound S.prev e (tick w))) (R (coded (low h e n (n + 1) m) (coded (part.moved_by t n offset) (if b then c else Do (LoadO t t) c))) (mk w y))) (sym scalar)
+      (by (evaluated S.s S.bound S.prev e (tick w)) (R (coded (low h e n (n + 1) m) (coded (part.moved_by t n offset) (Do (LoadO t t) c))) (mk w y)) (sim n (n + 1) m (coded (part.moved_by t n offset) (Do (LoadO t t) c)) (tick w) y (omega (arith, st, tn)) (omega arith) u room))
     where
-      by : (r : Val) (q : Res Mid) → SimS (structure_goal n (n + 1) (tick w) y) (R (part.moved_by t n offset (Do (LoadO t t) c))) (m + length (sizes h e)) r q → SimV (goal false t n w y) (R c) false (src.member_at ty e span offset r) q
+      by : (r : Val) (q : Res Mid) → SimS (structure_goal n (n + 1) (tick w) y) (R (coded (part.moved_by t n offset) (Do (LoadO t t) c))) (m + length (sizes h e)) r q → SimV (goal false t n w y) (R c) false (src.member_at ty e span offset r) q
       by (Value d wa) q a =
           let g = goal false t n w y in
           let hi : ℕ = m + length (sizes h e) in
@@ -132,5 +133,5 @@ module _ (S : Site) where
           as_40 : (g : Goal) (wa : World) (xa : Side) → Now g 40 wa xa → Now g (32 + 8) wa xa
           as_40 g wa xa k = k
       by (Place p wa) q a = absurd a
-      by (NoValue wa) q a = subst (λ z. Prefix wa.events (events_of z)) (sym a.1) (R_grows (part.moved_by t n offset (Do (LoadO t t) c)) (mk wa a.0))
+      by (NoValue wa) q a = subst (λ z. Prefix wa.events (events_of z)) (sym a.1) (R_grows (coded (part.moved_by t n offset) (Do (LoadO t t) c)) (mk wa a.0))
       by (Stops f wa) q a = kept_wider (goal false t n w y) (structure_goal n (n + 1) (tick w) y) (omega arith) f wa q a

@@ -27,6 +27,7 @@ use Rattle.mid_code.specs.inner.Passing.{Prefix}
 use Rattle.lower_trees.specs.Shape.{Shape, shape_in, words}
 use Rattle.lower_trees.specs.Flags.{is_flag}
 use Rattle.lower_trees.specs.Parts as part
+use Rattle.lower_trees.specs.Pieces.{coded}
 use Rattle.lower_trees.specs.Expressions.{low, value}
 use Rattle.lower_trees.specs.Expressions as low
 use Rattle.lower_trees.specs.Counts.{sizes, value_sizes}
@@ -129,7 +130,7 @@ module _ (S : Site) where
   kept_structure (PointerY i) c e = refl
   kept_structure (ArrayY of len) c e = refl
 
-  pub same_code : (ty : Ty) (known : Bool) (t : ℕ) (c : NodesT ℕ) → is_structure ty ≡ true → part.converted ty known t c ≡ c
+  pub same_code : (ty : Ty) (known : Bool) (t : ℕ) (c : NodesT ℕ) → is_structure ty ≡ true → coded (part.converted ty known t) c ≡ c
   same_code (StructY i) known t c e = refl
   same_code (UnionY i) known t c e = refl
   same_code VoidY known t c e = refl
@@ -146,33 +147,33 @@ module _ (S : Site) where
 
     pub structure_stored : (T : Val → Res Mid → Type 0) → ((f : End) (u : World) (m : Res Mid) → Kept γ f u m → T (Stops f u) m)
         → ((v : World) (y : Side) → Taken γ (s + 16) hi o v y → y.temps t ≡ Ptr o j → ((i : ℕ) → 5 ≤ i → y.temps i ≡ x.temps i) → T (Value (Ptr o j) v) (R c (mk v y)))
-        → T (src.assigned S.s S.bound e span place (Ptr o j) w) (R (part.converted (type_of e) known t (part.stored h (type_of e) p t c)) (mk w x))
+        → T (src.assigned S.s S.bound e span place (Ptr o j) w) (R (coded (part.converted (type_of e) known t) (coded (part.stored h (type_of e) p t) c)) (mk w x))
     structure_stored T stops f =
         let size : ℕ = words h (type_of e) in
         let σ : Way γ1 = record { R = Val; stop = Stops; T = T; stops = λ i u m q. stops i u m (kept_wider γ γ1 (omega arith) i u m q) } in
         let r : Val = then_went Stops (cells_set (span_of e) 1 S.bound size (Some (Ptr o j)) place w) (λ u. Value (Ptr o j) u) in
         let few : size < 2 ^ 32 = in_words (words_of h.layouts (type_of e)) in
-        subst (λ d. T (src.assigned S.s S.bound e span place (Ptr o j) w) (R d (mk w x))) (sym (same_code (type_of e) known t (part.stored h (type_of e) p t c) structure))
-        (subst (λ q. T (asked Stops span w q (λ z. then_went Stops (stored S.s S.bound 0 (type_of e) (span_of e) place z w) (λ u. Value z u))) (R (part.stored h (type_of e) p t c) (mk w x))) (sym (kept_structure (type_of e) (Ptr o j) structure))
-        (subst (λ b. T (then_went Stops (if b then cells_set (span_of e) (0 + 1) S.bound size (Some (Ptr o j)) place w else asked CutOff (span_of e) (spend 0 w) (write w.store.objects place (Ptr o j)) (λ os. Through (on_store (with_objects os) (spend 0 w)))) (λ u. Value (Ptr o j) u)) (R (if b then Do (MoveO part.from t) (Do (MoveO part.to p) (part.copied size c)) else Do (StoreO p t) c) (mk w x))) (sym structure)
-        (sets S T γ1 (s + 24) w x part.from (Ptr o j) (MoveO part.from t) (Do (MoveO part.to p) (part.copied size c)) (spare γ1 (s + 32) (s + 24 + 8) w x (omega arith) (taken_here γ (s + 32) hi (o ∷ []) w x h0)) (low_free γ1 part.from (omega arith)) (ap (λ z. to temporaries part.from (Ok z) (spent 8 (mk w x))) at) r (λ y hy ey rest.
-        sets S T γ1 (s + 16) w y part.to place (MoveO part.to p) (part.copied size c) (spare γ1 (s + 24) (s + 16 + 8) w y (omega arith) hy) (low_free γ1 part.to (omega arith)) (ap (λ z. to temporaries part.to (Ok z) (spent 8 (mk w y))) (rest p (eqb_more p part.from (omega (arith, five_p))) ∙ there)) r (λ z hz ez rest2.
+        subst (λ d. T (src.assigned S.s S.bound e span place (Ptr o j) w) (R d (mk w x))) (sym (same_code (type_of e) known t (coded (part.stored h (type_of e) p t) c) structure))
+        (subst (λ q. T (asked Stops span w q (λ z. then_went Stops (stored S.s S.bound 0 (type_of e) (span_of e) place z w) (λ u. Value z u))) (R (coded (part.stored h (type_of e) p t) c) (mk w x))) (sym (kept_structure (type_of e) (Ptr o j) structure))
+        (subst (λ b. T (then_went Stops (if b then cells_set (span_of e) (0 + 1) S.bound size (Some (Ptr o j)) place w else asked CutOff (span_of e) (spend 0 w) (write w.store.objects place (Ptr o j)) (λ os. Through (on_store (with_objects os) (spend 0 w)))) (λ u. Value (Ptr o j) u)) (R (if b then Do (MoveO part.from t) (Do (MoveO part.to p) (coded (part.copied size) c)) else Do (StoreO p t) c) (mk w x))) (sym structure)
+        (sets S T γ1 (s + 24) w x part.from (Ptr o j) (MoveO part.from t) (Do (MoveO part.to p) (coded (part.copied size) c)) (spare γ1 (s + 32) (s + 24 + 8) w x (omega arith) (taken_here γ (s + 32) hi (o ∷ []) w x h0)) (low_free γ1 part.from (omega arith)) (ap (λ z. to temporaries part.from (Ok z) (spent 8 (mk w x))) at) r (λ y hy ey rest.
+        sets S T γ1 (s + 16) w y part.to place (MoveO part.to p) (coded (part.copied size) c) (spare γ1 (s + 24) (s + 16 + 8) w y (omega arith) hy) (low_free γ1 part.to (omega arith)) (ap (λ z. to temporaries part.to (Ok z) (spent 8 (mk w y))) (rest p (eqb_more p part.from (omega (arith, five_p))) ∙ there)) r (λ z hz ez rest2.
         copies S γ1 (span_of e) 1 (omega arith) σ s size (omega (arith, few)) (Ptr o j) place w z c hz (rest2 part.from refl ∙ ey) ez (λ u. Value (Ptr o j) u) (λ v u hu others.
         f v u (taken_on γ (s + 32) (s + 16) hi (o ∷ []) w x v u h0 hu) (others t five ∙ rest2 t (eqb_more t part.to (omega (arith, five))) ∙ rest t (eqb_more t part.from (omega (arith, five))) ∙ at)
         (λ i g. others i g ∙ rest2 i (eqb_more i part.to (omega (arith, g))) ∙ rest i (eqb_more i part.from (omega (arith, g))))))))))
 
   -- the assignment of a structure, whose value is that structure
   pub assign_structure : (a b : TExprT) → Follow S a → FollowValue S b → is_structure (type_of a) ≡ true → (span : Span) (t n m hi : ℕ) (c : NodesT ℕ) (w : World) (y : Side) → scratch ≤ t → t < n → Fit w y → Room S (base_of w y) m (sizes h a ++ value_sizes h b) → m + length (sizes h a) + length (value_sizes h b) ≤ hi
-      → SimS (structure_goal t n w y) (R c) hi (src.assign S.s S.bound None a b span (evaluated S.s S.bound S.prev a (tick w)) (evaluated S.s S.bound S.prev b)) (R (low.assign h None a b (low.low h a) (low.low h b) t n m c) (mk w y))
+      → SimS (structure_goal t n w y) (R c) hi (src.assign S.s S.bound None a b span (evaluated S.s S.bound S.prev a (tick w)) (evaluated S.s S.bound S.prev b)) (R (coded (low.assign h None a b (low.low h a) (low.low h b) t n m) c) (mk w y))
   assign_structure a b sima simb structure span t n m hi c w y st tn u room most =
       let γ = structure_goal t n w y in
       let T : Val → Res Mid → Type 0 = SimS γ (R c) hi in
       let n2 : ℕ = low.behind_place a n + 2 in
       let m2 : ℕ = m + length (sizes h a) in
       let hb : ℕ = m2 + length (value_sizes h b) in
-      let c1 : NodesT ℕ = part.converted (type_of a) (is_flag b) t (part.stored h (type_of a) n t c) in
-      let c0 : NodesT ℕ = low.value h b (low.low h b) t n2 m2 c1 in
-      place_then γ T (λ f v q k. k) 44 n (n + 1) (tick w) y (R c0) (begin_structure t n w y u) (above_free γ n (omega arith)) (omega arith) (R_grows c0) (is_place a) span (evaluated S.s S.bound S.prev a (tick w)) (R (low.low h a n (n + 1) m c0) (mk w y))
+      let c1 : NodesT ℕ = coded (part.converted (type_of a) (is_flag b) t) (coded (part.stored h (type_of a) n t) c) in
+      let c0 : NodesT ℕ = coded (low.value h b (low.low h b) t n2 m2) c1 in
+      place_then γ T (λ f v q k. k) 44 n (n + 1) (tick w) y (R c0) (begin_structure t n w y u) (above_free γ n (omega arith)) (omega arith) (R_grows c0) (is_place a) span (evaluated S.s S.bound S.prev a (tick w)) (R (coded (low.low h a n (n + 1) m) c0) (mk w y))
       (sima n (n + 1) m c0 (tick w) y (omega (arith, st, tn)) (omega arith) u (room_first S (base_of w y) m (sizes h a) (value_sizes h b) room))
       (λ p wa. src.with_value Stops S.s S.bound b (evaluated S.s S.bound S.prev b wa) (λ d wb. src.assigned S.s S.bound a span p d wb))
       (λ p wa xa ha at below.

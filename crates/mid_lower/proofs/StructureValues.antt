@@ -14,6 +14,7 @@ use Rattle.c_meaning.specs.Outcomes.{then_went}
 use Rattle.mid_code.specs.Code.{FreshO, MoveO, LocalO, NodesT, Do}
 use Rattle.mid_code.specs.Meaning.{Res}
 use Rattle.mid_code.specs.States.{temporaries, sizes_of, to, spent}
+use Rattle.lower_trees.specs.Pieces.{coded}
 use Rattle.lower_trees.specs.Parts as part
 use Rattle.mid_lower.proofs.Grows.{Mid}
 use Rattle.mid_lower.proofs.Under.{Under, under_join, under_length}
@@ -141,12 +142,12 @@ module _ (S : Site) where
     here v y q n = cell_there γ q k i size w x v y at lt n
 
     pub structure_copied : (p : Cell) → x.temps t ≡ p → (go : World → σ.R) → ((v : World) (y : Side) → Now γ1 (s + 28) v y → y.temps t ≡ value_at → ((j : ℕ) → 5 ≤ j → eqb j t ≡ false → y.temps j ≡ x.temps j) → σ.T (go v) (R c (mk v y)))
-        → σ.T (then_went σ.stop (cells_set span 1 S.bound size (Some p) (next_object w.store) (with_value size w)) go) (R (part.structure_read size k t c) (mk w x))
+        → σ.T (then_went σ.stop (cells_set span 1 S.bound size (Some p) (next_object w.store) (with_value size w)) go) (R (coded (part.structure_read size k t) c) (mk w x))
     structure_copied p ep go f =
         let w1 : World = with_value size w in
         let x1 : Side = taken i size w x in
         let c3 : NodesT ℕ = Do (LocalO t k) c in
-        let c2 : NodesT ℕ = part.copied size c3 in
+        let c2 : NodesT ℕ = coded (part.copied size) c3 in
         let r : σ.R = then_went σ.stop (cells_set span 1 S.bound size (Some p) value_at w1) go in
         subst (σ.T r) (sym (taken_is i size k (Do (MoveO part.from t) (Do (LocalO part.to k) c2)) w x h.stays.fit at words le))
         (sets S σ.T γ1 (s + 44) w1 x1 part.from (x.temps t) (MoveO part.from t) (Do (LocalO part.to k) c2) (spare γ1 (s + 52) (s + 44 + 8) w1 x1 (omega arith) (taken_now γ (s + 52) i size w x h le)) (low_free γ1 part.from (omega arith)) refl r (λ y hy ey rest.

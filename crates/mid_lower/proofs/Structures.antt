@@ -20,6 +20,7 @@ use Rattle.mid_code.specs.Meaning.{Res}
 use Rattle.mid_code.specs.States.{sizes_of}
 use Rattle.lower_trees.specs.Shape.{Shape, shape_in, words}
 use Rattle.lower_trees.specs.Parts as part
+use Rattle.lower_trees.specs.Pieces.{coded}
 use Rattle.lower_trees.specs.Expressions.{low, value}
 use Rattle.lower_trees.specs.Expressions as low
 use Rattle.lower_trees.specs.Counts.{sizes, read_sizes, value_sizes}
@@ -54,7 +55,7 @@ module _ (S : Site) where
   h = shape_in S.s
 
   abbrev pub FollowValue : TExprT → Type 0
-  FollowValue e = (t n m : ℕ) (c : NodesT ℕ) (w : World) (x : Side) → scratch ≤ t → t < n → Fit w x → Room S (base_of w x) m (value_sizes h e) → SimS (structure_goal t n w x) (R c) (m + length (value_sizes h e)) (value_of S.s S.bound e (evaluated S.s S.bound S.prev e w)) (R (value h e (low h e) t n m c) (mk w x))
+  FollowValue e = (t n m : ℕ) (c : NodesT ℕ) (w : World) (x : Side) → scratch ≤ t → t < n → Fit w x → Room S (base_of w x) m (value_sizes h e) → SimS (structure_goal t n w x) (R c) (m + length (value_sizes h e)) (value_of S.s S.bound e (evaluated S.s S.bound S.prev e w)) (R (coded (value h e (low h e) t n m) c) (mk w x))
 
   -- the value of a place
   module _ (e : TExprT) (sim : Follow S e) (t n m : ℕ) (c : NodesT ℕ) (w : World) (x : Side) (st : scratch ≤ t) (tn : t < n) (fit : Fit w x) where
@@ -71,7 +72,7 @@ module _ (S : Site) where
     more : (hi o : ℕ) (v : World) (y : Side) → Taken γ0 28 hi o v y → Taken γ 0 hi o v y
     more hi o v y h = record { fit = h.fit; same_function = h.same_function; same_own = h.same_own; later = h.later; over = h.over; most = h.most; long = h.long; keep = h.keep; there = h.there; mine = h.mine; below = h.below; cost = omega (arith, h.cost) }
 
-    copied_value : (size k hi : ℕ) (span : Span) (p : Cell) (wa : World) (xa : Side) → Now (goal true t n w x) 0 wa xa → xa.temps t ≡ p → size ≤ 2 ^ 32 → k + 1 ≤ hi → Room S (base_of w x) k (size ∷ []) → SimS γ (R c) hi (structure_read span S.bound size p wa) (R (part.structure_read size k t c) (mk wa xa))
+    copied_value : (size k hi : ℕ) (span : Span) (p : Cell) (wa : World) (xa : Side) → Now (goal true t n w x) 0 wa xa → xa.temps t ≡ p → size ≤ 2 ^ 32 → k + 1 ≤ hi → Room S (base_of w x) k (size ∷ []) → SimS γ (R c) hi (structure_read span S.bound size p wa) (R (coded (part.structure_read size k t) c) (mk wa xa))
     copied_value size k hi span p wa xa ha at few le room =
         let h0 = start wa xa ha in
         let i : ℕ = k - length w.store.locals in
@@ -88,7 +89,7 @@ module _ (S : Site) where
         structure_copied S γ0 σ 0 t k i size span wa xa c h0 (at_free γ0) (omega (arith, st)) here words_there few unused there p at (λ v. Value (next_object wa.store) v)
         (λ v y hy ey rest. (length wa.store.objects, 0, refl, y, refl, more hi (length wa.store.objects) v y (taken_of γ0 52 28 hi i size wa xa v y h0 unused there (omega (arith, le, free)) hy), ey))
 
-    by_place : (size k hi : ℕ) → size ≤ 2 ^ 32 → k + 1 ≤ hi → Room S (base_of w x) k (size ∷ []) → ((span : Span) (p : Cell) (wa : World) → fetched S.s S.bound (type_of e) span p wa ≡ structure_read span S.bound size p wa) → (r : Val) (q : Res Mid) → SimV (goal true t n w x) (R (part.structure_read size k t c)) true r q → SimS γ (R c) hi (value_of S.s S.bound e r) q
+    by_place : (size k hi : ℕ) → size ≤ 2 ^ 32 → k + 1 ≤ hi → Room S (base_of w x) k (size ∷ []) → ((span : Span) (p : Cell) (wa : World) → fetched S.s S.bound (type_of e) span p wa ≡ structure_read span S.bound size p wa) → (r : Val) (q : Res Mid) → SimV (goal true t n w x) (R (coded (part.structure_read size k t) c)) true r q → SimS γ (R c) hi (value_of S.s S.bound e r) q
     by_place size k hi few le room is (Place p wa) q a =
         subst (λ z. SimS γ (R c) hi z q) (sym (is (span_of e) p wa))
         (subst (SimS γ (R c) hi (structure_read (span_of e) S.bound size p wa)) (sym a.2) (copied_value size k hi (span_of e) p wa a.1 a.3 a.4 few le room))
@@ -108,12 +109,12 @@ module _ (S : Site) where
       let few : size < 2 ^ 32 = in_words (words_of h.layouts (type_of e)) in
       let last = subst (λ zs. Room S (base_of w x) k zs) one (room_second S (base_of w x) m (sizes h e) (read_sizes h (is_place e) (type_of e)) room) in
       let inner = room_first S (base_of w x) m (sizes h e) (read_sizes h (is_place e) (type_of e)) room in
-      let c1 : NodesT ℕ = part.structure_read size k t c in
+      let c1 : NodesT ℕ = coded (part.structure_read size k t) c in
       subst (λ d. SimS (structure_goal t n w x) (R c) hi (value_of S.s S.bound e (evaluated S.s S.bound S.prev e w)) (R d (mk w x))) (sym (code_is (is_place e) (type_of e) k (low h e) t n m c place structure))
-      (by_place e sim t n m c w x st tn fit size k hi (omega (arith, few)) (omega (arith, l, length_one)) last (fetched_is (type_of e) structure) (evaluated S.s S.bound S.prev e w) (R (low h e t n m c1) (mk w x))
-      (subst (λ b. SimV (goal b t n w x) (R c1) b (evaluated S.s S.bound S.prev e w) (R (low h e t n m c1) (mk w x))) place (sim t n m c1 w x st tn fit inner)))
+      (by_place e sim t n m c w x st tn fit size k hi (omega (arith, few)) (omega (arith, l, length_one)) last (fetched_is (type_of e) structure) (evaluated S.s S.bound S.prev e w) (R (coded (low h e t n m) c1) (mk w x))
+      (subst (λ b. SimV (goal b t n w x) (R c1) b (evaluated S.s S.bound S.prev e w) (R (coded (low h e t n m) c1) (mk w x))) place (sim t n m c1 w x st tn fit inner)))
     where
-      code_is : (b : Bool) (ty : Ty) (k : ℕ) (place : low.Low) (t n m : ℕ) (c : NodesT ℕ) → b ≡ true → is_structure ty ≡ true → low.value_of h b ty k place t n m c ≡ place t n m (part.structure_read (words h ty) k t c)
+      code_is : (b : Bool) (ty : Ty) (k : ℕ) (place : low.Low) (t n m : ℕ) (c : NodesT ℕ) → b ≡ true → is_structure ty ≡ true → coded (low.value_of h b ty k place t n m) c ≡ coded (place t n m) (coded (part.structure_read (words h ty) k t) c)
       code_is true (StructY i) k place t n m c eb et = refl
       code_is true (UnionY i) k place t n m c eb et = refl
       code_is true VoidY k place t n m c eb et = absurd (false≢true et)

@@ -8,7 +8,8 @@ use Rattle.c_types.specs.Kinds.{is_structure, decayed, pointed, is_pointer}
 use Rattle.mid_code.specs.Code.{Stop, Do, Call, Choose, Block, Loop, Leave, Again, Return}
 use Rattle.mid_code.specs.Calls.{loops, CallsTo}
 use Rattle.lower_trees.specs.Shape.{Shape, words}
-use Rattle.lower_trees.specs.Parts.{Nodes, copied, zeroed, as_flag, converted, stored, with_word, stepped, with_pointer, operated_on, operated, one_more, one_less, tested_as, negated_as, made}
+use Rattle.lower_trees.specs.Pieces.{Nodes, coded}
+use Rattle.lower_trees.specs.Parts.{copied, zeroed, as_flag, converted, stored, with_word, stepped, with_pointer, operated_on, operated, one_more, one_less, tested_as, negated_as, made}
 
 -- how much a call of each function counts, and how much a loop
 pub record Counting : Type 0 where
@@ -79,19 +80,19 @@ module _ (k : Counting) where
   either_tally true x y n p q = p
   either_tally false x y n p q = q
 
-  pub copied_tally : (size : ℕ) (c : Nodes) → k.loop ≡ 0 → tally k (copied size c) ≡ tally k c
+  pub copied_tally : (size : ℕ) (c : Nodes) → k.loop ≡ 0 → tally k (coded (copied size) c) ≡ tally k c
   copied_tally zero c e = refl
   copied_tally (suc left) c e = omega (arith, e)
 
-  pub zeroed_tally : (size : ℕ) (c : Nodes) → k.loop ≡ 0 → tally k (zeroed size c) ≡ tally k c
+  pub zeroed_tally : (size : ℕ) (c : Nodes) → k.loop ≡ 0 → tally k (coded (zeroed size) c) ≡ tally k c
   zeroed_tally zero c e = refl
   zeroed_tally (suc left) c e = omega (arith, e)
 
-  pub flag_tally : (known : Bool) (t : ℕ) (c : Nodes) → tally k (as_flag known t c) ≡ tally k c
+  pub flag_tally : (known : Bool) (t : ℕ) (c : Nodes) → tally k (coded (as_flag known t) c) ≡ tally k c
   flag_tally true t c = refl
   flag_tally false t c = refl
 
-  pub converted_tally : (ty : Ty) (known : Bool) (t : ℕ) (c : Nodes) → tally k (converted ty known t c) ≡ tally k c
+  pub converted_tally : (ty : Ty) (known : Bool) (t : ℕ) (c : Nodes) → tally k (coded (converted ty known t) c) ≡ tally k c
   converted_tally BoolY known t c = flag_tally known t c
   converted_tally VoidY known t c = refl
   converted_tally IntY known t c = refl
@@ -101,7 +102,7 @@ module _ (k : Counting) where
   converted_tally (PointerY of) known t c = refl
   converted_tally (ArrayY of n) known t c = refl
 
-  word_tally : (op : BinOp) (t a b : ℕ) (c : Nodes) → tally k (with_word op t a b c) ≡ tally k c
+  word_tally : (op : BinOp) (t a b : ℕ) (c : Nodes) → tally k (coded (with_word op t a b) c) ≡ tally k c
   word_tally bin.Mul t a b c = refl
   word_tally bin.Div t a b c = refl
   word_tally bin.Mod t a b c = refl
@@ -121,10 +122,10 @@ module _ (k : Counting) where
   word_tally bin.AndAlso t a b c = refl
   word_tally bin.OrElse t a b c = refl
 
-  pub stepped_tally : (size t a b u : ℕ) (c : Nodes) → tally k (stepped size t a b u c) ≡ tally k c
+  pub stepped_tally : (size t a b u : ℕ) (c : Nodes) → tally k (coded (stepped size t a b u) c) ≡ tally k c
   stepped_tally size t a b u c = either_tally (size == 1) _ _ (tally k c) refl refl
 
-  pointer_tally : (op : BinOp) (size : ℕ) (pointers : Bool) (t a b u : ℕ) (c : Nodes) → tally k (with_pointer op size pointers t a b u c) ≡ tally k c
+  pointer_tally : (op : BinOp) (size : ℕ) (pointers : Bool) (t a b u : ℕ) (c : Nodes) → tally k (coded (with_pointer op size pointers t a b u) c) ≡ tally k c
   pointer_tally bin.Add size pointers t a b u c = stepped_tally size t a b u c
   pointer_tally bin.Sub size true t a b u c = refl
   pointer_tally bin.Sub size false t a b u c = stepped_tally size t a b u c
@@ -145,22 +146,22 @@ module _ (k : Counting) where
   pointer_tally bin.AndAlso size pointers t a b u c = refl
   pointer_tally bin.OrElse size pointers t a b u c = refl
 
-  on_tally : (h : Shape) (op : BinOp) (to : Option Ty) (pointers : Bool) (t a b u : ℕ) (c : Nodes) → tally k (operated_on h op to pointers t a b u c) ≡ tally k c
+  on_tally : (h : Shape) (op : BinOp) (to : Option Ty) (pointers : Bool) (t a b u : ℕ) (c : Nodes) → tally k (coded (operated_on h op to pointers t a b u) c) ≡ tally k c
   on_tally h op None pointers t a b u c = word_tally op t a b c
   on_tally h op (Some ty) pointers t a b u c = pointer_tally op (words h ty) pointers t a b u c
 
-  pub operated_tally : (h : Shape) (op : BinOp) (ta tb : Ty) (t a b u : ℕ) (c : Nodes) → tally k (operated h op ta tb t a b u c) ≡ tally k c
+  pub operated_tally : (h : Shape) (op : BinOp) (ta tb : Ty) (t a b u : ℕ) (c : Nodes) → tally k (coded (operated h op ta tb t a b u) c) ≡ tally k c
   operated_tally h op ta tb t a b u c = on_tally h op (pointed (decayed ta)) (is_pointer (decayed tb)) t a b u c
 
-  pub more_tally : (h : Shape) (to : Option Ty) (t a u : ℕ) (c : Nodes) → tally k (one_more h to t a u c) ≡ tally k c
+  pub more_tally : (h : Shape) (to : Option Ty) (t a u : ℕ) (c : Nodes) → tally k (coded (one_more h to t a u) c) ≡ tally k c
   more_tally h None t a u c = refl
   more_tally h (Some ty) t a u c = refl
 
-  pub less_tally : (h : Shape) (to : Option Ty) (t a u : ℕ) (c : Nodes) → tally k (one_less h to t a u c) ≡ tally k c
+  pub less_tally : (h : Shape) (to : Option Ty) (t a u : ℕ) (c : Nodes) → tally k (coded (one_less h to t a u) c) ≡ tally k c
   less_tally h None t a u c = refl
   less_tally h (Some ty) t a u c = refl
 
-  pub tested_tally : (ty : Ty) (t : ℕ) (c : Nodes) → tally k (tested_as ty t c) ≡ tally k c
+  pub tested_tally : (ty : Ty) (t : ℕ) (c : Nodes) → tally k (coded (tested_as ty t) c) ≡ tally k c
   tested_tally VoidY t c = refl
   tested_tally IntY t c = refl
   tested_tally BoolY t c = refl
@@ -170,7 +171,7 @@ module _ (k : Counting) where
   tested_tally (PointerY of) t c = refl
   tested_tally (ArrayY of n) t c = refl
 
-  pub negated_tally : (ty : Ty) (t : ℕ) (c : Nodes) → tally k (negated_as ty t c) ≡ tally k c
+  pub negated_tally : (ty : Ty) (t : ℕ) (c : Nodes) → tally k (coded (negated_as ty t) c) ≡ tally k c
   negated_tally VoidY t c = refl
   negated_tally IntY t c = refl
   negated_tally BoolY t c = refl
@@ -180,10 +181,10 @@ module _ (k : Counting) where
   negated_tally (PointerY of) t c = refl
   negated_tally (ArrayY of n) t c = refl
 
-  pub stored_tally : (h : Shape) (ty : Ty) (p a : ℕ) (c : Nodes) → Spared (is_structure ty) → tally k (stored h ty p a c) ≡ tally k c
+  pub stored_tally : (h : Shape) (ty : Ty) (p a : ℕ) (c : Nodes) → Spared (is_structure ty) → tally k (coded (stored h ty p a) c) ≡ tally k c
   stored_tally h ty p a c (inl e) = either_tally (is_structure ty) _ _ (tally k c) (copied_tally (words h ty) c e) refl
   stored_tally h ty p a c (inr s) = rw s refl
 
-  pub made_tally : (objects : List ℕ) (c : Nodes) → tally k (made objects c) ≡ tally k c
+  pub made_tally : (objects : List ℕ) (c : Nodes) → tally k (coded (made objects) c) ≡ tally k c
   made_tally [] c = refl
   made_tally (j ∷ js) c = made_tally js c

@@ -10,24 +10,25 @@ use Rattle.mid_code.specs.Paths.{Blocked, Point, at, beginning}
 use Rattle.mid_code.specs.Invariants.{DifferFrom, AreDifferent}
 use Rattle.mid_code.specs.Together.{WordsAtOnce}
 use Rattle.lower_trees.specs.Shape.{Shape, words}
-use Rattle.lower_trees.specs.Parts.{Nodes, first_param}
-use Rattle.lower_trees.specs.Counts.{stmts_sizes}
+use Rattle.lower_trees.specs.Pieces.{Nodes, coded}
+use Rattle.lower_trees.specs.Parts.{first_param}
 use Rattle.lower_trees.specs.Statements.{ToEnd}
 use Rattle.lower_trees.specs.Lowered.{received, all_received, first_of, low_body, low_function}
+use Rattle.lower_trees.specs.Counts.{stmts_sizes}
 use Rattle.mid_lower.proofs.TogetherPaths.{Frames, Leads, here, doing, into_block, Expected, Reaching, led, all_made}
 use Rattle.mid_lower.proofs.TogetherExpressions.{copied_leads, either_leads}
 use Rattle.mid_lower.proofs.TogetherPoints.{stmts_reaches}
 
 -- ---- one path through the code that makes them all
 
-received_leads : (h : Shape) (ty : Ty) (k a : ℕ) (c : Nodes) (fs : Frames) (q : Point ℕ) → Leads (at fs c) q → Leads (at fs (received h ty k a c)) q
+received_leads : (h : Shape) (ty : Ty) (k a : ℕ) (c : Nodes) (fs : Frames) (q : Point ℕ) → Leads (at fs c) q → Leads (at fs (coded (received h ty k a) c)) q
 received_leads h ty k a c fs q l = either_leads (is_structure ty) _ _ fs q (doing tt (doing tt (copied_leads (words h ty) c fs q l))) (doing tt (doing tt l))
 
-all_received_leads : (h : Shape) (tys : List Ty) (k a : ℕ) (c : Nodes) (fs : Frames) (q : Point ℕ) → Leads (at fs c) q → Leads (at fs (all_received h tys k a c)) q
+all_received_leads : (h : Shape) (tys : List Ty) (k a : ℕ) (c : Nodes) (fs : Frames) (q : Point ℕ) → Leads (at fs c) q → Leads (at fs (coded (all_received h tys k a) c)) q
 all_received_leads h [] k a c fs q l = l
 all_received_leads h (ty ∷ tys) k a c fs q l = received_leads h ty k a _ fs q (all_received_leads h tys (k + 1) (a + 1) c fs q l)
 
-body_reaches : (h : Shape) (f : TFunctionT) (ks : List ℕ) → ReachesAll f.body ks → Reaching (f.made ++ ks) (beginning (low_body h f))
+body_reaches : (h : Shape) (f : TFunctionT) (ks : List ℕ) → ReachesAll f.body ks → Reaching (f.made ++ ks) (beginning (coded (low_body h f) Stop))
 body_reaches h f ks r =
     all_made f.made ks [] _ (led ks _ _ (all_received_leads h f.params 0 first_param _ [] _ (into_block (here _)))
     (stmts_reaches h f.gives f.body ks (first_of f.params) (length f.locals) 0 (ToEnd 0) Stop (Blocked Stop ∷ []) r))

@@ -14,18 +14,19 @@ use Rattle.c_types.specs.Kinds.{is_structure, decayed, pointed, is_pointer}
 use Rattle.mid_code.specs.Paths.{Point, at}
 use Rattle.lower_trees.specs.Shape.{Shape, words, params_of, result_of}
 use Rattle.lower_trees.specs.Flags.{is_flag}
-use Rattle.lower_trees.specs.Parts.{Nodes, copied, zeroed, structure_read, as_flag, converted, stored, with_word, stepped, with_pointer, operated_on, operated, one_more, one_less, tested_as, negated_as}
+use Rattle.lower_trees.specs.Pieces.{Nodes, coded}
+use Rattle.lower_trees.specs.Parts.{copied, zeroed, structure_read, as_flag, converted, stored, with_word, stepped, with_pointer, operated_on, operated, one_more, one_less, tested_as, negated_as}
+use Rattle.lower_trees.specs.Expressions.{Low, read, value_of, value, test, unary, second, beyond, size_at, binary, behind_place, assign, step_made, stepped_to, step_taken, index, member_of, called, spots, converted_to, later_types, low, low_args, low_value, low_test, counts_up}
 use Rattle.lower_trees.specs.Counts.{sizes, sizes_all}
-use Rattle.lower_trees.specs.Expressions.{Low, read, value_of, value, test, unary, second, beyond, size_at, binary, behind_place, assign, step_made, stepped_to, step_taken, index, member_of, called, spots, converted_to, later_types, low, low_args, low_value, low_test}
 use Rattle.mid_lower.proofs.TogetherPaths.{Frames, Leads, doing, calling, first_way, second_way, into_loop, way_ends, loop_ends}
 
 -- ---- parts
 
-pub copied_leads : (size : ℕ) (c : Nodes) (fs : Frames) (q : Point ℕ) → Leads (at fs c) q → Leads (at fs (copied size c)) q
+pub copied_leads : (size : ℕ) (c : Nodes) (fs : Frames) (q : Point ℕ) → Leads (at fs c) q → Leads (at fs (coded (copied size) c)) q
 copied_leads zero c fs q l = l
 copied_leads (suc left) c fs q l = doing tt (doing tt (into_loop (doing tt (doing tt (doing tt (second_way (way_ends (loop_ends l))))))))
 
-pub zeroed_leads : (size : ℕ) (c : Nodes) (fs : Frames) (q : Point ℕ) → Leads (at fs c) q → Leads (at fs (zeroed size c)) q
+pub zeroed_leads : (size : ℕ) (c : Nodes) (fs : Frames) (q : Point ℕ) → Leads (at fs c) q → Leads (at fs (coded (zeroed size) c)) q
 zeroed_leads zero c fs q l = l
 zeroed_leads (suc left) c fs q l = doing tt (doing tt (doing tt (into_loop (doing tt (doing tt (second_way (way_ends (loop_ends l))))))))
 
@@ -33,24 +34,24 @@ pub either_leads : (b : Bool) (x y : Nodes) (fs : Frames) (q : Point ℕ) → Le
 either_leads true x y fs q k l = k
 either_leads false x y fs q k l = l
 
-flag_leads : (known : Bool) (t : ℕ) (c : Nodes) (fs : Frames) (q : Point ℕ) → Leads (at fs c) q → Leads (at fs (as_flag known t c)) q
+flag_leads : (known : Bool) (t : ℕ) (c : Nodes) (fs : Frames) (q : Point ℕ) → Leads (at fs c) q → Leads (at fs (coded (as_flag known t) c)) q
 flag_leads true t c fs q l = l
 flag_leads false t c fs q l = doing tt l
 
-pub converted_leads : (ty : Ty) (known : Bool) (t : ℕ) (c : Nodes) (fs : Frames) (q : Point ℕ) → Leads (at fs c) q → Leads (at fs (converted ty known t c)) q
+pub converted_leads : (ty : Ty) (known : Bool) (t : ℕ) (c : Nodes) (fs : Frames) (q : Point ℕ) → Leads (at fs c) q → Leads (at fs (coded (converted ty known t) c)) q
 converted_leads BoolY known t c fs q l = flag_leads known t c fs q l
 converted_leads ty known t c fs q l = l
 
-word_leads : (op : BinOp) (t a b : ℕ) (c : Nodes) (fs : Frames) (q : Point ℕ) → Leads (at fs c) q → Leads (at fs (with_word op t a b c)) q
+word_leads : (op : BinOp) (t a b : ℕ) (c : Nodes) (fs : Frames) (q : Point ℕ) → Leads (at fs c) q → Leads (at fs (coded (with_word op t a b) c)) q
 word_leads bin.Shr t a b c fs q l = doing tt (doing tt l)
 word_leads bin.AndAlso t a b c fs q l = l
 word_leads bin.OrElse t a b c fs q l = l
 word_leads op t a b c fs q l = doing tt l
 
-stepped_leads : (size t a b u : ℕ) (c : Nodes) (fs : Frames) (q : Point ℕ) → Leads (at fs c) q → Leads (at fs (stepped size t a b u c)) q
+stepped_leads : (size t a b u : ℕ) (c : Nodes) (fs : Frames) (q : Point ℕ) → Leads (at fs c) q → Leads (at fs (coded (stepped size t a b u) c)) q
 stepped_leads size t a b u c fs q l = either_leads (size == 1) _ _ fs q (doing tt l) (doing tt (doing tt (doing tt l)))
 
-pointer_leads : (op : BinOp) (size : ℕ) (pointers : Bool) (t a b u : ℕ) (c : Nodes) (fs : Frames) (q : Point ℕ) → Leads (at fs c) q → Leads (at fs (with_pointer op size pointers t a b u c)) q
+pointer_leads : (op : BinOp) (size : ℕ) (pointers : Bool) (t a b u : ℕ) (c : Nodes) (fs : Frames) (q : Point ℕ) → Leads (at fs c) q → Leads (at fs (coded (with_pointer op size pointers t a b u) c)) q
 pointer_leads bin.Add size pointers t a b u c fs q l = stepped_leads size t a b u c fs q l
 pointer_leads bin.Sub size true t a b u c fs q l = doing tt (doing tt (doing tt l))
 pointer_leads bin.Sub size false t a b u c fs q l = doing tt (stepped_leads size t a b u c fs q l)
@@ -62,39 +63,39 @@ pointer_leads bin.More size pointers t a b u c fs q l = doing tt l
 pointer_leads bin.MoreEq size pointers t a b u c fs q l = doing tt l
 pointer_leads op size pointers t a b u c fs q l = l
 
-on_leads : (h : Shape) (op : BinOp) (to_type : Option Ty) (pointers : Bool) (t a b u : ℕ) (c : Nodes) (fs : Frames) (q : Point ℕ) → Leads (at fs c) q → Leads (at fs (operated_on h op to_type pointers t a b u c)) q
+on_leads : (h : Shape) (op : BinOp) (to_type : Option Ty) (pointers : Bool) (t a b u : ℕ) (c : Nodes) (fs : Frames) (q : Point ℕ) → Leads (at fs c) q → Leads (at fs (coded (operated_on h op to_type pointers t a b u) c)) q
 on_leads h op None pointers t a b u c fs q l = word_leads op t a b c fs q l
 on_leads h op (Some ty) pointers t a b u c fs q l = pointer_leads op (words h ty) pointers t a b u c fs q l
 
-operated_leads : (h : Shape) (op : BinOp) (ta tb : Ty) (t a b u : ℕ) (c : Nodes) (fs : Frames) (q : Point ℕ) → Leads (at fs c) q → Leads (at fs (operated h op ta tb t a b u c)) q
+operated_leads : (h : Shape) (op : BinOp) (ta tb : Ty) (t a b u : ℕ) (c : Nodes) (fs : Frames) (q : Point ℕ) → Leads (at fs c) q → Leads (at fs (coded (operated h op ta tb t a b u) c)) q
 operated_leads h op ta tb t a b u c fs q l = on_leads h op (pointed (decayed ta)) (is_pointer (decayed tb)) t a b u c fs q l
 
-more_leads : (h : Shape) (to_type : Option Ty) (t a u : ℕ) (c : Nodes) (fs : Frames) (q : Point ℕ) → Leads (at fs c) q → Leads (at fs (one_more h to_type t a u c)) q
+more_leads : (h : Shape) (to_type : Option Ty) (t a u : ℕ) (c : Nodes) (fs : Frames) (q : Point ℕ) → Leads (at fs c) q → Leads (at fs (coded (one_more h to_type t a u) c)) q
 more_leads h None t a u c fs q l = doing tt (doing tt l)
 more_leads h (Some ty) t a u c fs q l = doing tt (doing tt l)
 
-less_leads : (h : Shape) (to_type : Option Ty) (t a u : ℕ) (c : Nodes) (fs : Frames) (q : Point ℕ) → Leads (at fs c) q → Leads (at fs (one_less h to_type t a u c)) q
+less_leads : (h : Shape) (to_type : Option Ty) (t a u : ℕ) (c : Nodes) (fs : Frames) (q : Point ℕ) → Leads (at fs c) q → Leads (at fs (coded (one_less h to_type t a u) c)) q
 less_leads h None t a u c fs q l = doing tt (doing tt l)
 less_leads h (Some ty) t a u c fs q l = doing tt (doing tt (doing tt l))
 
-tested_leads : (ty : Ty) (t : ℕ) (c : Nodes) (fs : Frames) (q : Point ℕ) → Leads (at fs c) q → Leads (at fs (tested_as ty t c)) q
+tested_leads : (ty : Ty) (t : ℕ) (c : Nodes) (fs : Frames) (q : Point ℕ) → Leads (at fs c) q → Leads (at fs (coded (tested_as ty t) c)) q
 tested_leads (PointerY of) t c fs q l = doing tt (doing tt l)
 tested_leads ty t c fs q l = l
 
-negated_leads : (ty : Ty) (t : ℕ) (c : Nodes) (fs : Frames) (q : Point ℕ) → Leads (at fs c) q → Leads (at fs (negated_as ty t c)) q
+negated_leads : (ty : Ty) (t : ℕ) (c : Nodes) (fs : Frames) (q : Point ℕ) → Leads (at fs c) q → Leads (at fs (coded (negated_as ty t) c)) q
 negated_leads (PointerY of) t c fs q l = doing tt (doing tt l)
 negated_leads ty t c fs q l = doing tt l
 
-stored_leads : (h : Shape) (ty : Ty) (p a : ℕ) (c : Nodes) (fs : Frames) (q : Point ℕ) → Leads (at fs c) q → Leads (at fs (stored h ty p a c)) q
+stored_leads : (h : Shape) (ty : Ty) (p a : ℕ) (c : Nodes) (fs : Frames) (q : Point ℕ) → Leads (at fs c) q → Leads (at fs (coded (stored h ty p a) c)) q
 stored_leads h ty p a c fs q l = either_leads (is_structure ty) _ _ fs q (doing tt (doing tt (copied_leads (words h ty) c fs q l))) (doing tt l)
 
 -- ---- values
 
 -- code of a part leads to what follows it
 abbrev pub Passes : Low → Type 0
-Passes part = (t n m : ℕ) (c : Nodes) (fs : Frames) (q : Point ℕ) → Leads (at fs c) q → Leads (at fs (part t n m c)) q
+Passes part = (t n m : ℕ) (c : Nodes) (fs : Frames) (q : Point ℕ) → Leads (at fs c) q → Leads (at fs (coded (part t n m) c)) q
 
-structure_passes : (h : Shape) (ty : Ty) (local t : ℕ) (c : Nodes) (fs : Frames) (q : Point ℕ) → Leads (at fs c) q → Leads (at fs (structure_read (words h ty) local t c)) q
+structure_passes : (h : Shape) (ty : Ty) (local t : ℕ) (c : Nodes) (fs : Frames) (q : Point ℕ) → Leads (at fs c) q → Leads (at fs (coded (structure_read (words h ty) local t) c)) q
 structure_passes h ty local t c fs q l = doing tt (doing tt (doing tt (copied_leads (words h ty) _ fs q (doing tt l))))
 
 read_passes : (h : Shape) (ty : Ty) (local : ℕ) (part : Low) → Passes part → Passes (read h ty local part)
@@ -140,13 +141,13 @@ assign_passes h (Some op) x y first last p r t n m c fs q l =
     (doing tt (operated_leads h op (type_of x) (type_of y) t t (behind_place x n) (behind_place x n + 1) _ fs q
     (converted_leads (type_of x) false t _ fs q (doing tt l)))))
 
-one_step_leads : (h : Shape) (op : StepOp) (ty : Ty) (new old by : ℕ) (c : Nodes) (fs : Frames) (q : Point ℕ) → Leads (at fs c) q → Leads (at fs (step_made h op ty new old by c)) q
+one_step_leads : (h : Shape) (op : StepOp) (ty : Ty) (new old by : ℕ) (c : Nodes) (fs : Frames) (q : Point ℕ) → Leads (at fs c) q → Leads (at fs (coded (step_made h (counts_up op) ty new old by) c)) q
 one_step_leads h PreUp ty new old by c fs q l = more_leads h (pointed (decayed ty)) new old by c fs q l
 one_step_leads h PostUp ty new old by c fs q l = more_leads h (pointed (decayed ty)) new old by c fs q l
 one_step_leads h PreDown ty new old by c fs q l = less_leads h (pointed (decayed ty)) new old by c fs q l
 one_step_leads h PostDown ty new old by c fs q l = less_leads h (pointed (decayed ty)) new old by c fs q l
 
-to_leads : (h : Shape) (op : StepOp) (x : TExprT) (new old place : ℕ) (c : Nodes) (fs : Frames) (q : Point ℕ) → Leads (at fs c) q → Leads (at fs (stepped_to h op x new old place c)) q
+to_leads : (h : Shape) (op : StepOp) (x : TExprT) (new old place : ℕ) (c : Nodes) (fs : Frames) (q : Point ℕ) → Leads (at fs c) q → Leads (at fs (coded (stepped_to h (counts_up op) (type_of x) new old place) c)) q
 to_leads h op x new old place c fs q l = doing tt (one_step_leads h op (type_of x) new old (place + 1) _ fs q (converted_leads (type_of x) false new _ fs q (doing tt l)))
 
 step_passes : (h : Shape) (op : StepOp) (x : TExprT) (part : Low) → Passes part → Passes (step_taken h op x part)
@@ -159,14 +160,14 @@ index_passes : (h : Shape) (ty : Ty) (x y : TExprT) (first last : Low) → Passe
 index_passes h ty x y first last p r t n m c fs q l =
     value_passes h x first p n (n + 1) m _ fs q (value_passes h y last r (second x n) (second x n + 1) (beyond h x m) _ fs q (stepped_leads (words h ty) t n (second x n) (size_at x y n) c fs q l))
 
-member_leads : (place : Bool) (ty : Ty) (t : ℕ) (c : Nodes) (fs : Frames) (q : Point ℕ) → Leads (at fs c) q → Leads (at fs (member_of place ty t c)) q
+member_leads : (place : Bool) (ty : Ty) (t : ℕ) (c : Nodes) (fs : Frames) (q : Point ℕ) → Leads (at fs c) q → Leads (at fs (coded (member_of place ty t) c)) q
 member_leads true ty t c fs q l = l
 member_leads false ty t c fs q l = either_leads (is_structure ty) _ _ fs q l (doing tt l)
 
-called_leads : (ty : Ty) (f local t : ℕ) (args : List ℕ) (c : Nodes) (fs : Frames) (q : Point ℕ) → Leads (at fs c) q → Leads (at fs (called ty f local t args c)) q
+called_leads : (ty : Ty) (f local t : ℕ) (args : List ℕ) (c : Nodes) (fs : Frames) (q : Point ℕ) → Leads (at fs c) q → Leads (at fs (coded (called ty f local t args) c)) q
 called_leads ty f local t args c fs q l = either_leads (is_structure ty) _ _ fs q (doing tt (doing tt (calling l))) (calling l)
 
-given_leads : (tys : List Ty) (known : Bool) (t : ℕ) (c : Nodes) (fs : Frames) (q : Point ℕ) → Leads (at fs c) q → Leads (at fs (converted_to tys known t c)) q
+given_leads : (tys : List Ty) (known : Bool) (t : ℕ) (c : Nodes) (fs : Frames) (q : Point ℕ) → Leads (at fs c) q → Leads (at fs (coded (converted_to tys known t) c)) q
 given_leads [] known t c fs q l = l
 given_leads (ty ∷ tys) known t c fs q l = converted_leads ty known t c fs q l
 
@@ -192,7 +193,7 @@ mutual
   low_passes h (Typed HaltK ty span) t n m c fs q l = doing tt l
   low_passes h (Typed CardK ty span) t n m c fs q l = doing tt l
 
-  args_leads : (h : Shape) (tys : List Ty) (xs : TExprTs) (n m : ℕ) (c : Nodes) (fs : Frames) (q : Point ℕ) → Leads (at fs c) q → Leads (at fs (low_args h tys xs n m c)) q
+  args_leads : (h : Shape) (tys : List Ty) (xs : TExprTs) (n m : ℕ) (c : Nodes) (fs : Frames) (q : Point ℕ) → Leads (at fs c) q → Leads (at fs (coded (low_args h tys xs n m) c)) q
   args_leads h tys NoX n m c fs q l = l
   args_leads h tys (MoreX x xs) n m c fs q l =
       value_passes h x (low h x) (low_passes h x) n (n + 1) m _ fs q (given_leads tys (is_flag x) n _ fs q (args_leads h (later_types tys) xs (second x n) (beyond h x m) c fs q l))

@@ -6,7 +6,8 @@ use Rattle.mid_code.specs.Paths.{Frame, Branched, Blocked, Looped, Point, at, le
 use Rattle.mid_code.specs.Live as live
 use Rattle.mid_code.specs.Open.{without, open_behind, AllAmong, Comes}
 use Rattle.mid_code.proofs.Opened.{with_itself, with_other, some_long, some_each}
-use Rattle.lower_trees.specs.Parts.{Nodes, made}
+use Rattle.lower_trees.specs.Pieces.{Nodes, coded}
+use Rattle.lower_trees.specs.Parts.{made}
 
 abbrev pub Frames : Type 0
 Frames = List (Frame ℕ)
@@ -116,10 +117,10 @@ one_made k ks fs c h js made e = let r = h js (k ∷ without k made) (expected j
     by j true s o = inr (subst (λ i. live.is_among (k ∷ without k made) i ≡ true) (sym (eqb-true j k s)) (with_itself k made))
     by j false s o = elim o [ inl f ↦ inl f | inr f ↦ inr (with_other k j made f) ]
 
-pub all_made : (ks js : List ℕ) (fs : Frames) (c : Nodes) → Reaching js (at fs c) → Reaching (ks ++ js) (at fs (made ks c))
+pub all_made : (ks js : List ℕ) (fs : Frames) (c : Nodes) → Reaching js (at fs c) → Reaching (ks ++ js) (at fs (coded (made ks) c))
 all_made [] js fs c h = h
-all_made (k ∷ ks) js fs c h = one_made k (ks ++ js) fs (made ks c) (all_made ks js fs c h)
+all_made (k ∷ ks) js fs c h = one_made k (ks ++ js) fs (coded (made ks) c) (all_made ks js fs c h)
 
-pub made_leads : (ks : List ℕ) (c : Nodes) (fs : Frames) (q : Point ℕ) → Leads (at fs c) q → Leads (at fs (made ks c)) q
+pub made_leads : (ks : List ℕ) (c : Nodes) (fs : Frames) (q : Point ℕ) → Leads (at fs c) q → Leads (at fs (coded (made ks) c)) q
 made_leads [] c fs q l = l
 made_leads (k ∷ ks) c fs q l = doing tt (made_leads ks c fs q l)

@@ -6,10 +6,10 @@ use Rattle.c_meaning.specs.Frames.{Onward, Reaches, ReachesOther, ReachesAll, Re
 use Rattle.mid_code.specs.Code.{Stop, Again}
 use Rattle.mid_code.specs.Paths.{Branched, Blocked, Point, at}
 use Rattle.lower_trees.specs.Shape.{Shape}
-use Rattle.lower_trees.specs.Parts.{Nodes}
-use Rattle.lower_trees.specs.Counts.{maybe_temps, maybe_sizes, stmt_temps, stmt_sizes, other_temps, other_sizes}
+use Rattle.lower_trees.specs.Pieces.{Nodes, coded, Piece}
 use Rattle.lower_trees.specs.Expressions.{second, beyond}
 use Rattle.lower_trees.specs.Statements.{Jump, ToEnd, ToTurn, further, low_stmt, low_other, low_stmts, low_arms, low_group}
+use Rattle.lower_trees.specs.Counts.{maybe_temps, maybe_sizes, stmt_temps, stmt_sizes, other_temps, other_sizes}
 use Rattle.mid_lower.proofs.TogetherPaths.{Frames, here, doing, first_way, second_way, into_block, into_loop, way_ends, Reaching, none_made, led, all_made}
 use Rattle.mid_lower.proofs.TogetherExpressions.{low_value_passes, low_test_passes}
 use Rattle.mid_lower.proofs.TogetherWays.{into_turn, for_frames, switch_leads, stmt_way, other_way}
@@ -21,7 +21,7 @@ same : (ks js : List ℕ) (p : Point ℕ) → ks ≡ js → Reaching js p → Re
 same ks js p e h = subst (λ xs. Reaching xs p) (sym e) h
 
 mutual
-  stmt_reaches : (h : Shape) (ty : Ty) (a : TStmtT) (ks : List ℕ) (n m b : ℕ) (j : Jump) (c : Nodes) (fs : Frames) → Reaches a ks → Reaching ks (at fs (low_stmt h ty a n m b j c))
+  stmt_reaches : (h : Shape) (ty : Ty) (a : TStmtT) (ks : List ℕ) (n m b : ℕ) (j : Jump) (c : Nodes) (fs : Frames) → Reaches a ks → Reaching ks (at fs (coded (low_stmt h ty a n m b j) c))
   stmt_reaches h ty (BlockZ made body) ks n m b j c fs r = same ks (made ++ r.0) _ r.1 (all_made made r.0 fs _ (stmts_reaches h ty body r.0 n m b j c fs r.2))
   stmt_reaches h ty EmptyZ ks n m b j c fs r = none ks _ r
   stmt_reaches h ty (VarsZ vars) ks n m b j c fs r = none ks _ r
@@ -42,7 +42,7 @@ mutual
     | inr s ↦ led ks _ _ (into_loop (into_block (here _))) (stmt_reaches h ty a ks n m 1 (ToEnd 0) Stop _ s)
   ]
   stmt_reaches h ty (ForZ made first test step a) ks n m b j c fs r =
-      let body : (u v : ℕ) → Nodes = λ u v. low_stmt h ty a u v 1 (ToEnd 0) Stop in
+      let body : (u v : ℕ) → Piece = λ u v. low_stmt h ty a u v 1 (ToEnd 0) in
       same ks (made ++ r.0) _ r.1 (all_made made r.0 fs _ (elim r.2 [
         | inl e ↦ none r.0 _ e
         | inr s ↦ elim s [
@@ -62,11 +62,11 @@ mutual
   stmt_reaches h ty BreakZ ks n m b j c fs r = none ks _ r
   stmt_reaches h ty ContinueZ ks n m b j c fs r = none ks _ r
 
-  other_reaches : (h : Shape) (ty : Ty) (a : MaybeZ) (ks : List ℕ) (n m b : ℕ) (j : Jump) (c : Nodes) (fs : Frames) → ReachesOther a ks → Reaching ks (at fs (low_other h ty a n m b j c))
+  other_reaches : (h : Shape) (ty : Ty) (a : MaybeZ) (ks : List ℕ) (n m b : ℕ) (j : Jump) (c : Nodes) (fs : Frames) → ReachesOther a ks → Reaching ks (at fs (coded (low_other h ty a n m b j) c))
   other_reaches h ty NoneZ ks n m b j c fs r = none ks _ r
   other_reaches h ty (SomeZ a) ks n m b j c fs r = stmt_reaches h ty a ks n m b j c fs r
 
-  pub stmts_reaches : (h : Shape) (ty : Ty) (all : TStmtTs) (ks : List ℕ) (n m b : ℕ) (j : Jump) (c : Nodes) (fs : Frames) → ReachesAll all ks → Reaching ks (at fs (low_stmts h ty all n m b j c))
+  pub stmts_reaches : (h : Shape) (ty : Ty) (all : TStmtTs) (ks : List ℕ) (n m b : ℕ) (j : Jump) (c : Nodes) (fs : Frames) → ReachesAll all ks → Reaching ks (at fs (coded (low_stmts h ty all n m b j) c))
   stmts_reaches h ty NoZ ks n m b j c fs r = none ks _ r
   stmts_reaches h ty (MoreZ a rest) ks n m b j c fs r = elim r [
     | inl s ↦ stmt_reaches h ty a ks n m b j _ fs s
@@ -74,7 +74,7 @@ mutual
   ]
 
   -- from inside a group on
-  arms_reach : (h : Shape) (ty : Ty) (t : ℕ) (arms : TArmTs) (ks : List ℕ) (n m b : ℕ) (j : Jump) (fs : Frames) → ReachesArms arms ks → Reaching ks (at (Branched (low_arms h ty t arms n m b j) ∷ fs) (low_group h ty arms n m b j))
+  arms_reach : (h : Shape) (ty : Ty) (t : ℕ) (arms : TArmTs) (ks : List ℕ) (n m b : ℕ) (j : Jump) (fs : Frames) → ReachesArms arms ks → Reaching ks (at (Branched (coded (low_arms h ty t arms n m b j) Stop) ∷ fs) (coded (low_group h ty arms n m b j) Stop))
   arms_reach h ty t NoB ks n m b j fs r = none ks _ r
   arms_reach h ty t (MoreB (CaseB label) rest) ks n m b j fs r = elim r [
     | inl e ↦ none ks _ e
@@ -90,7 +90,7 @@ mutual
   ]
 
   -- from one of the labels on
-  from_reaches : (h : Shape) (ty : Ty) (t : ℕ) (arms : TArmTs) (ks : List ℕ) (n m b : ℕ) (j : Jump) (fs : Frames) → ReachesFrom arms ks → Reaching ks (at fs (low_arms h ty t arms n m b j))
+  from_reaches : (h : Shape) (ty : Ty) (t : ℕ) (arms : TArmTs) (ks : List ℕ) (n m b : ℕ) (j : Jump) (fs : Frames) → ReachesFrom arms ks → Reaching ks (at fs (coded (low_arms h ty t arms n m b j) Stop))
   from_reaches h ty t NoB ks n m b j fs r = absurd r
   from_reaches h ty t (MoreB (CaseB label) rest) ks n m b j fs r = elim r [
     | inl s ↦ led ks _ _ (second_way (here _)) (arms_reach h ty t rest ks n m b j fs s.1)

@@ -3,13 +3,14 @@ use Rattle.std.proofs.Common.{ℕ, suc, ◌+◌, inl, inr, ◌⊎◌, List, ◌�
 use Rattle.c_types.specs.Types.{Ty}
 use Rattle.c_types.specs.Typed.{TExprT, TStmtT, BlockZ, EmptyZ, VarsZ, DoZ, IfZ, WhileZ, DoWhileZ, ForZ, SwitchZ, ReturnZ, BreakZ, ContinueZ, MaybeZ, NoneZ, SomeZ, TStmtTs, NoZ, MoreZ, CaseB, DefaultB, StmtB, TArmTs, NoB, MoreB}
 use Rattle.c_meaning.specs.Frames.{Way, Onward, ByBreak, ByContinue, IsOnward, IsBreak, IsContinue, HasTest, Leaves, LeavesOther, LeavesAll, LeavesArms, LeavesFrom}
-use Rattle.mid_code.specs.Code.{ConstO, Stop, Do, Choose, Block, Leave, Again}
+use Rattle.mid_code.specs.Code.{ConstO, Stop, Do, Choose, Leave, Again}
 use Rattle.mid_code.specs.Paths.{Branched, Blocked, Looped, Point, at, leaving, repeating}
 use Rattle.lower_trees.specs.Shape.{Shape}
-use Rattle.lower_trees.specs.Parts.{Nodes, one, made}
-use Rattle.lower_trees.specs.Counts.{maybe_temps, maybe_sizes, stmt_temps, stmt_sizes, other_temps, other_sizes}
+use Rattle.lower_trees.specs.Pieces.{Nodes, coded, Piece}
+use Rattle.lower_trees.specs.Parts.{one, made}
 use Rattle.lower_trees.specs.Expressions.{second, beyond, low_test}
-use Rattle.lower_trees.specs.Statements.{Jump, ToEnd, ToTurn, further, jump, low_chosen, low_dropped, turns, labels_before_default, low_match, low_stmt, low_other, low_stmts, low_arms, low_group}
+use Rattle.lower_trees.specs.Statements.{Jump, ToEnd, ToTurn, further, jump, low_chosen, low_dropped, turns, labels_before_default, low_match, low_stmt, low_other, low_stmts, low_arms, low_group, turn_of}
+use Rattle.lower_trees.specs.Counts.{maybe_temps, maybe_sizes, stmt_temps, stmt_sizes, other_temps, other_sizes}
 use Rattle.mid_lower.proofs.TogetherPaths.{Frames, Leads, OneLeads, doing, first_way, second_way, into_block, into_loop, way_ends, block_ends, loop_ends, leave_leads, again_leads, made_leads}
 use Rattle.mid_lower.proofs.TogetherExpressions.{low_value_passes, low_test_passes}
 use Rattle.mid_lower.proofs.TogetherInitialisers.{vars_leads}
@@ -56,7 +57,7 @@ grouped w b j fs c d e q o g = jumps_off w b j (Branched c ∷ fs) Stop e q o (b
 
 -- ---- loops
 
-loop_passes : (h : Shape) (x : TExprT) (t n m : ℕ) (turn b c : Nodes) (fs : Frames) (q : Point ℕ) → Leads (at fs c) q → Leads (at (Looped b c ∷ fs) (low_test h x t n m (Choose t turn Stop Stop))) q
+loop_passes : (h : Shape) (x : TExprT) (t n m : ℕ) (turn b c : Nodes) (fs : Frames) (q : Point ℕ) → Leads (at fs c) q → Leads (at (Looped b c ∷ fs) (coded (low_test h x t n m) (Choose t turn Stop Stop))) q
 loop_passes h x t n m turn b c fs q l = low_test_passes h x t n m _ (Looped b c ∷ fs) q (second_way (way_ends (loop_ends l)))
 
 -- what encloses what runs where the condition of a `for` holds
@@ -64,50 +65,53 @@ pub chosen_frames : Option TExprT → Frames → Frames
 chosen_frames None fs = fs
 chosen_frames (Some x) fs = Branched Stop ∷ fs
 
-chosen_leads : (h : Shape) (test : Option TExprT) (n m : ℕ) (turn : Nodes) (fs : Frames) (q : Point ℕ) → Leads (at (chosen_frames test fs) turn) q → Leads (at fs (low_chosen h test n m turn)) q
+chosen_leads : (h : Shape) (test : Option TExprT) (n m : ℕ) (turn : Piece) (fs : Frames) (q : Point ℕ) → Leads (at (chosen_frames test fs) (coded turn Stop)) q → Leads (at fs (coded (low_chosen h test n m turn) Stop)) q
 unfolding chosen_frames
 chosen_leads h None n m turn fs q l = l
 chosen_leads h (Some x) n m turn fs q l = low_test_passes h x n (n + 1) m _ fs q (first_way l)
 
 -- what comes behind the body of a `for`, and a turn of it
-abbrev behind_body : Shape → (test step : Option TExprT) → TStmtT → (n m : ℕ) → Nodes
-behind_body h test step a n m = low_dropped h step (n + maybe_temps test + stmt_temps a) (m + length (maybe_sizes h test) + length (stmt_sizes h a)) (Again 0 Stop)
+abbrev behind_body : Shape → (test step : Option TExprT) → TStmtT → (n m : ℕ) → Piece
+behind_body h test step a n m = low_dropped h step (n + maybe_temps test + stmt_temps a) (m + length (maybe_sizes h test) + length (stmt_sizes h a))
 
-abbrev for_turn : Shape → (test step : Option TExprT) → TStmtT → (body : (n m : ℕ) → Nodes) → (n m : ℕ) → Nodes
-for_turn h test step a body n m = low_chosen h test n m (Block (body (n + maybe_temps test) (m + length (maybe_sizes h test))) (behind_body h test step a n m))
+abbrev one_turn : Shape → (test step : Option TExprT) → TStmtT → (body : (n m : ℕ) → Piece) → (n m : ℕ) → Piece
+one_turn h test step a body n m = turn_of (body (n + maybe_temps test) (m + length (maybe_sizes h test))) (behind_body h test step a n m)
+
+abbrev for_turn : Shape → (test step : Option TExprT) → TStmtT → (body : (n m : ℕ) → Piece) → (n m : ℕ) → Nodes
+for_turn h test step a body n m = coded (low_chosen h test n m (one_turn h test step a body n m)) Stop
 
 -- what encloses the body
-abbrev pub for_frames : Shape → (test step : Option TExprT) → TStmtT → (body : (n m : ℕ) → Nodes) → (n m : ℕ) → Nodes → Frames → Frames
-for_frames h test step a body n m c fs = Blocked (behind_body h test step a n m) ∷ chosen_frames test (Looped (for_turn h test step a body n m) c ∷ fs)
+abbrev pub for_frames : Shape → (test step : Option TExprT) → TStmtT → (body : (n m : ℕ) → Piece) → (n m : ℕ) → Nodes → Frames → Frames
+for_frames h test step a body n m c fs = Blocked (coded (behind_body h test step a n m) (Again 0 Stop)) ∷ chosen_frames test (Looped (for_turn h test step a body n m) c ∷ fs)
 
-pub into_turn : (h : Shape) (test step : Option TExprT) (a : TStmtT) (body : (n m : ℕ) → Nodes) (n m : ℕ) (c : Nodes) (fs : Frames) (q : Point ℕ)
-    → Leads (at (for_frames h test step a body n m c fs) (body (n + maybe_temps test) (m + length (maybe_sizes h test)))) q → Leads (at fs (turns h test step a body n m c)) q
-into_turn h test step a body n m c fs q l = into_loop (chosen_leads h test n m _ _ q (into_block l))
+pub into_turn : (h : Shape) (test step : Option TExprT) (a : TStmtT) (body : (n m : ℕ) → Piece) (n m : ℕ) (c : Nodes) (fs : Frames) (q : Point ℕ)
+    → Leads (at (for_frames h test step a body n m c fs) (coded (body (n + maybe_temps test) (m + length (maybe_sizes h test))) Stop)) q → Leads (at fs (coded (turns h test step a body n m) c)) q
+into_turn h test step a body n m c fs q l = into_loop (chosen_leads h test n m (one_turn h test step a body n m) _ q (into_block l))
 
-breaks_turn : (h : Shape) (test step : Option TExprT) (a : TStmtT) (body : (n m : ℕ) → Nodes) (n m : ℕ) (c : Nodes) (fs : Frames) (q : Point ℕ) → Leads (at fs c) q → OneLeads (leaving (for_frames h test step a body n m c fs) 1) q
+breaks_turn : (h : Shape) (test step : Option TExprT) (a : TStmtT) (body : (n m : ℕ) → Piece) (n m : ℕ) (c : Nodes) (fs : Frames) (q : Point ℕ) → Leads (at fs c) q → OneLeads (leaving (for_frames h test step a body n m c fs) 1) q
 unfolding chosen_frames
 breaks_turn h None step a body n m c fs q l = inl l
 breaks_turn h (Some x) step a body n m c fs q l = inl l
 
 -- ---- switches
 
-match_leads : (t i d : ℕ) (arms : TArmTs) (fs : Frames) (q : Point ℕ) → Leads (at fs Stop) q → Leads (at fs (low_match t i d arms)) q
+match_leads : (t i d : ℕ) (arms : TArmTs) (fs : Frames) (q : Point ℕ) → Leads (at fs Stop) q → Leads (at fs (coded (low_match t i d arms) Stop)) q
 match_leads t i d NoB fs q l = doing tt l
 match_leads t i d (MoreB (CaseB label) rest) fs q l = doing tt (doing tt (second_way (way_ends (match_leads t (suc i) d rest fs q l))))
 match_leads t i d (MoreB DefaultB rest) fs q l = match_leads t (suc i) d rest fs q l
 match_leads t i d (MoreB (StmtB a) rest) fs q l = match_leads t i d rest fs q l
 
 -- every label is passed over
-arms_passed : (h : Shape) (ty : Ty) (t : ℕ) (arms : TArmTs) (n m b : ℕ) (j : Jump) (fs : Frames) (q : Point ℕ) → Leads (at fs Stop) q → Leads (at fs (low_arms h ty t arms n m b j)) q
+arms_passed : (h : Shape) (ty : Ty) (t : ℕ) (arms : TArmTs) (n m b : ℕ) (j : Jump) (fs : Frames) (q : Point ℕ) → Leads (at fs Stop) q → Leads (at fs (coded (low_arms h ty t arms n m b j) Stop)) q
 arms_passed h ty t NoB n m b j fs q l = l
 arms_passed h ty t (MoreB (CaseB label) rest) n m b j fs q l = first_way (doing tt (way_ends (arms_passed h ty t rest n m b j fs q l)))
 arms_passed h ty t (MoreB DefaultB rest) n m b j fs q l = first_way (doing tt (way_ends (arms_passed h ty t rest n m b j fs q l)))
 arms_passed h ty t (MoreB (StmtB a) rest) n m b j fs q l = arms_passed h ty t rest (n + stmt_temps a) (m + length (stmt_sizes h a)) b j fs q l
 
 -- the value of a switch is found among the labels, and the arms begin
-pub switch_leads : (ks : List ℕ) (arms : TArmTs) (n m : ℕ) (c : Nodes) (fs : Frames) (q : Point ℕ) → Leads (at fs (made ks c)) q
-    → Leads (at (Blocked (Do (ConstO one 1) (made ks c)) ∷ fs) (low_match n 0 (labels_before_default arms) arms)) q
-switch_leads ks arms n m c fs q l = match_leads n 0 (labels_before_default arms) arms (Blocked (Do (ConstO one 1) (made ks c)) ∷ fs) q (block_ends (doing tt l))
+pub switch_leads : (ks : List ℕ) (arms : TArmTs) (n m : ℕ) (c : Nodes) (fs : Frames) (q : Point ℕ) → Leads (at fs (coded (made ks) c)) q
+    → Leads (at (Blocked (Do (ConstO one 1) (coded (made ks) c)) ∷ fs) (coded (low_match n 0 (labels_before_default arms) arms) Stop)) q
+switch_leads ks arms n m c fs q l = match_leads n 0 (labels_before_default arms) arms (Blocked (Do (ConstO one 1) (coded (made ks) c)) ∷ fs) q (block_ends (doing tt l))
 
 -- ---- all forms
 
@@ -119,10 +123,10 @@ no_label ByContinue o e = e
 
 -- behind the condition at the end of a turn
 turn_ends : (h : Shape) (a : TStmtT) (x : TExprT) (n m : ℕ) (b c : Nodes) (fs : Frames) (q : Point ℕ) → Leads (at fs c) q
-    → Leads (at (Looped b c ∷ fs) (low_test h x (n + stmt_temps a) (n + stmt_temps a + 1) (m + length (stmt_sizes h a)) (Choose (n + stmt_temps a) (Again 0 Stop) Stop Stop))) q
+    → Leads (at (Looped b c ∷ fs) (coded (low_test h x (n + stmt_temps a) (n + stmt_temps a + 1) (m + length (stmt_sizes h a))) (Choose (n + stmt_temps a) (Again 0 Stop) Stop Stop))) q
 turn_ends h a x n m b c fs q l = loop_passes h x (n + stmt_temps a) (n + stmt_temps a + 1) (m + length (stmt_sizes h a)) (Again 0 Stop) b c fs q l
 
-jump_leads : (j : Jump) (c : Nodes) (fs : Frames) (q : Point ℕ) → OneLeads (jumped j fs) q → Leads (at fs (jump j c)) q
+jump_leads : (j : Jump) (c : Nodes) (fs : Frames) (q : Point ℕ) → OneLeads (jumped j fs) q → Leads (at fs (coded (jump j) c)) q
 jump_leads (ToEnd k) c fs q l = leave_leads l
 jump_leads (ToTurn k) c fs q l = again_leads l
 
@@ -131,7 +135,7 @@ broken Onward b j c fs q o g = absurd o
 broken ByBreak b j c fs q o g = leave_leads g
 broken ByContinue b j c fs q o g = absurd o
 
-continued : (w : Way) (b : ℕ) (j : Jump) (c : Nodes) (fs : Frames) (q : Point ℕ) → IsContinue w → Going w b j fs c q → Leads (at fs (jump j c)) q
+continued : (w : Way) (b : ℕ) (j : Jump) (c : Nodes) (fs : Frames) (q : Point ℕ) → IsContinue w → Going w b j fs c q → Leads (at fs (coded (jump j) c)) q
 continued Onward b j c fs q o g = absurd o
 continued ByBreak b j c fs q o g = absurd o
 continued ByContinue b j c fs q o g = jump_leads j c fs q g
@@ -143,12 +147,12 @@ in_arms ByBreak b j fs c q o g = absurd o
 in_arms ByContinue b j fs c q o g = jumped_blocked j fs c q g
 
 -- a condition does not hold
-not_chosen : (h : Shape) (test : Option TExprT) (n m : ℕ) (turn b c : Nodes) (fs : Frames) (q : Point ℕ) → HasTest test → Leads (at fs c) q → Leads (at (Looped b c ∷ fs) (low_chosen h test n m turn)) q
+not_chosen : (h : Shape) (test : Option TExprT) (n m : ℕ) (turn : Piece) (b c : Nodes) (fs : Frames) (q : Point ℕ) → HasTest test → Leads (at fs c) q → Leads (at (Looped b c ∷ fs) (coded (low_chosen h test n m turn) Stop)) q
 not_chosen h None n m turn b c fs q has l = absurd has
-not_chosen h (Some x) n m turn b c fs q has l = loop_passes h x n (n + 1) m turn b c fs q l
+not_chosen h (Some x) n m turn b c fs q has l = loop_passes h x n (n + 1) m (coded turn Stop) b c fs q l
 
 mutual
-  pub stmt_way : (h : Shape) (ty : Ty) (w : Way) (a : TStmtT) (n m b : ℕ) (j : Jump) (c : Nodes) (fs : Frames) (q : Point ℕ) → Leaves w a → Going w b j fs c q → Leads (at fs (low_stmt h ty a n m b j c)) q
+  pub stmt_way : (h : Shape) (ty : Ty) (w : Way) (a : TStmtT) (n m b : ℕ) (j : Jump) (c : Nodes) (fs : Frames) (q : Point ℕ) → Leaves w a → Going w b j fs c q → Leads (at fs (coded (low_stmt h ty a n m b j) c)) q
   stmt_way h ty w (BlockZ ks body) n m b j c fs q l g = made_leads ks _ fs q (stmts_way h ty w body n m b j c fs q l g)
   stmt_way h ty w EmptyZ n m b j c fs q l g = straight_on w b j fs c q l g
   stmt_way h ty w (VarsZ vars) n m b j c fs q l g = vars_leads h vars n m c fs q (straight_on w b j fs c q l g)
@@ -169,9 +173,9 @@ mutual
       ]))
   stmt_way h ty w (ForZ ks first test step a) n m b j c fs q l g =
       let behind = straight_on w b j fs c q l.0 g in
-      let body : (u v : ℕ) → Nodes = λ u v. low_stmt h ty a u v 1 (ToEnd 0) Stop in
+      let body : (u v : ℕ) → Piece = λ u v. low_stmt h ty a u v 1 (ToEnd 0) in
       made_leads ks _ fs q (other_way h ty Onward first n m b j _ fs q l.1 (elim l.2 [
-        | inl r ↦ into_loop (not_chosen h test (n + other_temps first) (m + length (other_sizes h first)) _ _ c fs q r behind)
+        | inl r ↦ into_loop (not_chosen h test (n + other_temps first) (m + length (other_sizes h first)) (one_turn h test step a body (n + other_temps first) (m + length (other_sizes h first))) _ c fs q r behind)
         | inr r ↦ into_turn h test step a body (n + other_temps first) (m + length (other_sizes h first)) c fs q
             (stmt_way h ty ByBreak a (n + other_temps first + maybe_temps test) (m + length (other_sizes h first) + length (maybe_sizes h test)) 1 (ToEnd 0) Stop
             (for_frames h test step a body (n + other_temps first) (m + length (other_sizes h first)) c fs) q r
@@ -192,11 +196,11 @@ mutual
   stmt_way h ty w BreakZ n m b j c fs q l g = broken w b j c fs q l g
   stmt_way h ty w ContinueZ n m b j c fs q l g = continued w b j c fs q l g
 
-  pub other_way : (h : Shape) (ty : Ty) (w : Way) (a : MaybeZ) (n m b : ℕ) (j : Jump) (c : Nodes) (fs : Frames) (q : Point ℕ) → LeavesOther w a → Going w b j fs c q → Leads (at fs (low_other h ty a n m b j c)) q
+  pub other_way : (h : Shape) (ty : Ty) (w : Way) (a : MaybeZ) (n m b : ℕ) (j : Jump) (c : Nodes) (fs : Frames) (q : Point ℕ) → LeavesOther w a → Going w b j fs c q → Leads (at fs (coded (low_other h ty a n m b j) c)) q
   other_way h ty w NoneZ n m b j c fs q l g = straight_on w b j fs c q l g
   other_way h ty w (SomeZ a) n m b j c fs q l g = stmt_way h ty w a n m b j c fs q l g
 
-  stmts_way : (h : Shape) (ty : Ty) (w : Way) (all : TStmtTs) (n m b : ℕ) (j : Jump) (c : Nodes) (fs : Frames) (q : Point ℕ) → LeavesAll w all → Going w b j fs c q → Leads (at fs (low_stmts h ty all n m b j c)) q
+  stmts_way : (h : Shape) (ty : Ty) (w : Way) (all : TStmtTs) (n m b : ℕ) (j : Jump) (c : Nodes) (fs : Frames) (q : Point ℕ) → LeavesAll w all → Going w b j fs c q → Leads (at fs (coded (low_stmts h ty all n m b j) c)) q
   stmts_way h ty w NoZ n m b j c fs q l g = straight_on w b j fs c q l g
   stmts_way h ty w (MoreZ a rest) n m b j c fs q l g = elim l [
     | inl r ↦ stmt_way h ty Onward a n m b j _ fs q r.0 (stmts_way h ty w rest (n + stmt_temps a) (m + length (stmt_sizes h a)) b j c fs q r.1 g)
@@ -205,7 +209,7 @@ mutual
 
   -- from inside a group on
   arms_way : (h : Shape) (ty : Ty) (w : Way) (t : ℕ) (arms : TArmTs) (n m b : ℕ) (j : Jump) (fs : Frames) (q : Point ℕ) → LeavesArms w arms → Going w b j fs Stop q
-      → Leads (at (Branched (low_arms h ty t arms n m b j) ∷ fs) (low_group h ty arms n m b j)) q
+      → Leads (at (Branched (coded (low_arms h ty t arms n m b j) Stop) ∷ fs) (coded (low_group h ty arms n m b j) Stop)) q
   arms_way h ty w t NoB n m b j fs q l g = way_ends (straight_on w b j fs Stop q l g)
   arms_way h ty w t (MoreB (CaseB label) rest) n m b j fs q l g = elim l [
     | inl r ↦ way_ends (second_way (arms_way h ty w t rest n m b j fs q r.1 g))
@@ -221,7 +225,7 @@ mutual
   ]
 
   -- from one of the labels on
-  from_way : (h : Shape) (ty : Ty) (w : Way) (t : ℕ) (arms : TArmTs) (n m b : ℕ) (j : Jump) (fs : Frames) (q : Point ℕ) → LeavesFrom w arms → Going w b j fs Stop q → Leads (at fs (low_arms h ty t arms n m b j)) q
+  from_way : (h : Shape) (ty : Ty) (w : Way) (t : ℕ) (arms : TArmTs) (n m b : ℕ) (j : Jump) (fs : Frames) (q : Point ℕ) → LeavesFrom w arms → Going w b j fs Stop q → Leads (at fs (coded (low_arms h ty t arms n m b j) Stop)) q
   from_way h ty w t NoB n m b j fs q l g = absurd l
   from_way h ty w t (MoreB (CaseB label) rest) n m b j fs q l g = elim l [
     | inl r ↦ second_way (arms_way h ty w t rest n m b j fs q r.1 g)

@@ -22,6 +22,7 @@ use Rattle.mid_code.specs.Code.{LoadO, NodesT, Do}
 use Rattle.mid_code.specs.Meaning.{Res}
 use Rattle.lower_trees.specs.Shape.{Shape, shape_in}
 use Rattle.lower_trees.specs.Flags.{is_flag}
+use Rattle.lower_trees.specs.Pieces.{coded}
 use Rattle.lower_trees.specs.Expressions.{low, value, test}
 use Rattle.lower_trees.specs.Expressions as low
 use Rattle.lower_trees.specs.Counts.{sizes, read_sizes, value_sizes}
@@ -76,7 +77,7 @@ module _ (S : Site) where
 
   -- that mid code follows an expression wherever it stands
   abbrev pub Follow : TExprT → Type 0
-  Follow e = (t n m : ℕ) (c : NodesT ℕ) (w : World) (x : Side) → scratch ≤ t → t < n → Fit w x → Room S (base_of w x) m (sizes h e) → SimV (goal (is_place e) t n w x) (R c) (is_place e) (evaluated S.s S.bound S.prev e w) (R (low h e t n m c) (mk w x))
+  Follow e = (t n m : ℕ) (c : NodesT ℕ) (w : World) (x : Side) → scratch ≤ t → t < n → Fit w x → Room S (base_of w x) m (sizes h e) → SimV (goal (is_place e) t n w x) (R c) (is_place e) (evaluated S.s S.bound S.prev e w) (R (coded (low h e t n m) c) (mk w x))
 
   -- what follows a value in t: where it is told to be a flag it is one
   abbrev pub Uses : (γ : Goal) (σ : Way γ) → (s0 t n : ℕ) → Side → NodesT ℕ → TExprT → (Cell → World → σ.R) → Type 0
@@ -140,28 +141,28 @@ module _ (S : Site) where
       void_value et (Stops g wa) q a = subst (λ r. σ.T r q) (sym (mk_is.of_stop g wa)) (σ.stops g wa q (kept_wider γ (goal true t n w x) (omega (arith, h0.cost)) g wa q a))
 
       -- the value of what came to a place or not
-      by_type : (ty : Ty) → type_of e ≡ ty → (k : ℕ) (place : low.Low) (r : Val) → is_flag e ≡ false → ((u v : ℕ) (d : NodesT ℕ) → scratch ≤ u → u < v → SimV (goal true u v w x) (R d) true r (R (place u v m d) (mk w x))) → Uses γ σ (s0 + 28) t n x c e go → σ.T (make (value_of S.s S.bound e r)) (R (low.read h ty k place t n m c) (mk w x))
-      by_type (ArrayY of len) et k place r nf sim f = array_value of len et nf r (R (place t n m c) (mk w x)) (sim t n c st tn) f
-      by_type VoidY et k place r nf sim f = void_value et r (R (place t n m c) (mk w x)) (sim t n c st tn)
-      by_type IntY et k place r nf sim f = placed_value (λ of len q. (no_array IntY of len tt (sym et ∙ q))) nf r (R (place n (n + 1) m (Do (LoadO t n) c)) (mk w x)) (sim n (n + 1) (Do (LoadO t n) c) (omega (arith, st, tn)) (omega arith)) f
-      by_type BoolY et k place r nf sim f = placed_value (λ of len q. (no_array BoolY of len tt (sym et ∙ q))) nf r (R (place n (n + 1) m (Do (LoadO t n) c)) (mk w x)) (sim n (n + 1) (Do (LoadO t n) c) (omega (arith, st, tn)) (omega arith)) f
-      by_type (EnumY i) et k place r nf sim f = placed_value (λ of len q. (no_array (EnumY i) of len tt (sym et ∙ q))) nf r (R (place n (n + 1) m (Do (LoadO t n) c)) (mk w x)) (sim n (n + 1) (Do (LoadO t n) c) (omega (arith, st, tn)) (omega arith)) f
-      by_type (PointerY i) et k place r nf sim f = placed_value (λ of len q. (no_array (PointerY i) of len tt (sym et ∙ q))) nf r (R (place n (n + 1) m (Do (LoadO t n) c)) (mk w x)) (sim n (n + 1) (Do (LoadO t n) c) (omega (arith, st, tn)) (omega arith)) f
+      by_type : (ty : Ty) → type_of e ≡ ty → (k : ℕ) (place : low.Low) (r : Val) → is_flag e ≡ false → ((u v : ℕ) (d : NodesT ℕ) → scratch ≤ u → u < v → SimV (goal true u v w x) (R d) true r (R (coded (place u v m) d) (mk w x))) → Uses γ σ (s0 + 28) t n x c e go → σ.T (make (value_of S.s S.bound e r)) (R (coded (low.read h ty k place t n m) c) (mk w x))
+      by_type (ArrayY of len) et k place r nf sim f = array_value of len et nf r (R (coded (place t n m) c) (mk w x)) (sim t n c st tn) f
+      by_type VoidY et k place r nf sim f = void_value et r (R (coded (place t n m) c) (mk w x)) (sim t n c st tn)
+      by_type IntY et k place r nf sim f = placed_value (λ of len q. (no_array IntY of len tt (sym et ∙ q))) nf r (R (coded (place n (n + 1) m) (Do (LoadO t n) c)) (mk w x)) (sim n (n + 1) (Do (LoadO t n) c) (omega (arith, st, tn)) (omega arith)) f
+      by_type BoolY et k place r nf sim f = placed_value (λ of len q. (no_array BoolY of len tt (sym et ∙ q))) nf r (R (coded (place n (n + 1) m) (Do (LoadO t n) c)) (mk w x)) (sim n (n + 1) (Do (LoadO t n) c) (omega (arith, st, tn)) (omega arith)) f
+      by_type (EnumY i) et k place r nf sim f = placed_value (λ of len q. (no_array (EnumY i) of len tt (sym et ∙ q))) nf r (R (coded (place n (n + 1) m) (Do (LoadO t n) c)) (mk w x)) (sim n (n + 1) (Do (LoadO t n) c) (omega (arith, st, tn)) (omega arith)) f
+      by_type (PointerY i) et k place r nf sim f = placed_value (λ of len q. (no_array (PointerY i) of len tt (sym et ∙ q))) nf r (R (coded (place n (n + 1) m) (Do (LoadO t n) c)) (mk w x)) (sim n (n + 1) (Do (LoadO t n) c) (omega (arith, st, tn)) (omega arith)) f
       by_type (StructY i) et k place r nf sim f = absurd (false≢true (sym (sym (ap is_structure et) ∙ ns)))
       by_type (UnionY i) et k place r nf sim f = absurd (false≢true (sym (sym (ap is_structure et) ∙ ns)))
 
-      by_place : (b : Bool) (k : ℕ) (part : low.Low) (r : Val) → (b ≡ true → is_flag e ≡ false) → ((v : Cell) (wa : World) → r ≡ Value v wa → is_flag e ≡ true → IsFlag v) → ((u v : ℕ) (d : NodesT ℕ) → scratch ≤ u → u < v → SimV (goal b u v w x) (R d) b r (R (part u v m d) (mk w x))) → Uses γ σ (s0 + 28) t n x c e go → σ.T (make (value_of S.s S.bound e r)) (R (low.value_of h b (type_of e) k part t n m c) (mk w x))
+      by_place : (b : Bool) (k : ℕ) (part : low.Low) (r : Val) → (b ≡ true → is_flag e ≡ false) → ((v : Cell) (wa : World) → r ≡ Value v wa → is_flag e ≡ true → IsFlag v) → ((u v : ℕ) (d : NodesT ℕ) → scratch ≤ u → u < v → SimV (goal b u v w x) (R d) b r (R (coded (part u v m) d) (mk w x))) → Uses γ σ (s0 + 28) t n x c e go → σ.T (make (value_of S.s S.bound e r)) (R (coded (low.value_of h b (type_of e) k part t n m) c) (mk w x))
       by_place true k part r nf flag sim f = by_type (type_of e) refl k part r (nf refl) sim f
-      by_place false k part r nf flag sim f = plain_value r (R (part t n m c) (mk w x)) (sim t n c st tn) flag f
+      by_place false k part r nf flag sim f = plain_value r (R (coded (part t n m) c) (mk w x)) (sim t n c st tn) flag f
 
-      made_sim : Follow e → Room S γ.base m (value_sizes h e) → Uses γ σ (s0 + 28) t n x c e go → σ.T (make (value_of S.s S.bound e (evaluated S.s S.bound S.prev e w))) (R (value h e (low h e) t n m c) (mk w x))
+      made_sim : Follow e → Room S γ.base m (value_sizes h e) → Uses γ σ (s0 + 28) t n x c e go → σ.T (make (value_of S.s S.bound e (evaluated S.s S.bound S.prev e w))) (R (coded (value h e (low h e) t n m) c) (mk w x))
       made_sim sim room f = by_place (is_place e) (m + length (sizes h e)) (low h e) (evaluated S.s S.bound S.prev e w) (no_flag e) (λ v wa q fl. flag_value S.s S.bound S.prev e w v wa q fl) (λ u v d su uv. sim u v m d w x su uv h0.stays.fit (room_at S γ.base m (sizes h e) w x (room_first S γ.base m (sizes h e) (read_sizes h (is_place e) (type_of e)) room) h0.stays)) f
 
     -- a value that is used
-    pub uses : (e : TExprT) → is_structure (type_of e) ≡ false → Room S γ.base m (value_sizes h e) → (go : Cell → World → σ.R) → Follow e → Uses γ σ (s0 + 28) t n x c e go → σ.T (with_value σ.stop S.s S.bound e (evaluated S.s S.bound S.prev e w) go) (R (value h e (low h e) t n m c) (mk w x))
+    pub uses : (e : TExprT) → is_structure (type_of e) ≡ false → Room S γ.base m (value_sizes h e) → (go : Cell → World → σ.R) → Follow e → Uses γ σ (s0 + 28) t n x c e go → σ.T (with_value σ.stop S.s S.bound e (evaluated S.s S.bound S.prev e w) go) (R (coded (value h e (low h e) t n m) c) (mk w x))
     uses e ns room go sim f = made_sim e ns (λ v. then_value σ.stop (span_of e) v go) go (record { of_value = λ d u. refl; of_stop = λ g u. refl }) (λ wa xa ha. σ.stops (Stray (span_of e)) wa (R c (mk wa xa)) (R_grows c (mk wa xa))) sim room f
 
     -- a value that is dropped; there may be none
-    pub drops : (e : TExprT) → is_structure (type_of e) ≡ false → Room S γ.base m (value_sizes h e) → (go : World → σ.R) → Follow e → ((wa : World) (xa : Side) → Now γ (s0 + 28) wa xa → σ.T (go wa) (R c (mk wa xa))) → σ.T (dropped σ.stop S.s S.bound e (evaluated S.s S.bound S.prev e w) go) (R (value h e (low h e) t n m c) (mk w x))
+    pub drops : (e : TExprT) → is_structure (type_of e) ≡ false → Room S γ.base m (value_sizes h e) → (go : World → σ.R) → Follow e → ((wa : World) (xa : Side) → Now γ (s0 + 28) wa xa → σ.T (go wa) (R c (mk wa xa))) → σ.T (dropped σ.stop S.s S.bound e (evaluated S.s S.bound S.prev e w) go) (R (coded (value h e (low h e) t n m) c) (mk w x))
     drops e ns room go sim f =
         made_sim e ns (λ v. dropped_value σ.stop e v go) (λ d u. go u) (record { of_value = λ d u. ap (λ b. go (record u { store = if b then end_temporary d u.store else u.store })) ns; of_stop = λ g u. refl }) f sim room (λ v wa xa flag ha at keep. f wa xa ha)

@@ -1,5 +1,5 @@
 -- What the lists of lowered code weigh.
-use Rattle.std.proofs.Common.{◌≡◌, ℕ, ◌+◌, ◌≤◌, ◌==◌, Bool, true, false, List, [], ◌∷◌, ◌++◌, Option, Some, None, refl, arith, if◌then◌else◌}
+use Rattle.std.proofs.Common.{suc, zero, ◌≡◌, ℕ, ◌+◌, ◌≤◌, ◌==◌, Bool, true, false, List, [], ◌∷◌, ◌++◌, Option, Some, None, refl, arith, if◌then◌else◌}
 use Rattle.c_tree.specs.declared.operator.BinOp.{BinOp}
 use Rattle.c_tree.specs.declared.operator.BinOp.TheVariants as bin
 use Rattle.c_types.specs.Types.{Ty, VoidY, IntY, BoolY, EnumY, StructY, UnionY, PointerY, ArrayY}
@@ -11,9 +11,9 @@ use Rattle.mid_code.specs.declared.node.Op.TheVariants as o
 use Rattle.mid_code.specs.Functions.{NodeT, DoN, ChooseN, BlockN, LoopN, LeaveN, AgainN, ReturnN, listed, joined, before, op_before}
 use Rattle.v32_isa.specs.declared.instruction.One.TheVariants.{ISGN}
 use Rattle.v32_isa.specs.declared.instruction.Two.TheVariants.{IMUL}
-use Rattle.lower_trees.specs.Parts.{count, one}
+use Rattle.lower_trees.specs.Pieces.{Listing, listing}
+use Rattle.lower_trees.specs.Parts.{copied, zeroed, moved_by, structure_read, as_flag, converted, stored, with_word, stepped, stepped_back, distant, with_pointer, operated_on, operated, one_more, one_less, tested_as, negated_as, made}
 use Rattle.lower_trees.specs.Shape.{Shape, words}
-use Rattle.lower_trees.specs.ListedParts.{Listing, copy_turn, copied, zeroed, moved_by, structure_read, as_flag, converted, stored, with_word, stepped, stepped_back, distant, with_pointer, operated_on, operated, one_more, one_less, tested_as, negated_as, made}
 
 abbrev pub weigh : Listing → ℕ
 weigh xs = nodes_weight (joined (listed xs))
@@ -67,27 +67,24 @@ four xs ys zs ws = let e = both (xs ++ ys ++ zs) ws in let f = three xs ys zs in
 
 -- ---- parts
 
-pub copied_weighs : (size : ℕ) → weigh (copied size) ≤ 80
-copied_weighs size = by (size == 0)
-  where
-    by : (b : Bool) → weigh (if b then [] else DoN (o.Const count size) ∷ DoN (o.Const one 1) ∷ LoopN (listed copy_turn) ∷ []) ≤ 80
-    by true = omega arith
-    by false = omega arith
+pub copied_weighs : (size : ℕ) → weigh (listing (copied size)) ≤ 80
+copied_weighs zero = omega arith
+copied_weighs (suc left) = omega arith
 
-pub moved_weighs : (t p offset : ℕ) → weigh (moved_by t p offset) ≤ 16
+pub moved_weighs : (t p offset : ℕ) → weigh (listing (moved_by t p offset)) ≤ 16
 moved_weighs t p offset = omega arith
 
-pub read_weighs : (size k t : ℕ) → weigh (structure_read size k t) ≤ 104
+pub read_weighs : (size k t : ℕ) → weigh (listing (structure_read size k t)) ≤ 104
 read_weighs size k t =
-    let e = three (DoN (o.Fresh k) ∷ DoN (o.Move 3 t) ∷ DoN (o.Local 4 k) ∷ []) (copied size) (DoN (o.Local t k) ∷ []) in
+    let e = three (DoN (o.Fresh k) ∷ DoN (o.Move 3 t) ∷ DoN (o.Local 4 k) ∷ []) (listing (copied size)) (DoN (o.Local t k) ∷ []) in
     let f = copied_weighs size in
     omega (arith, e, f)
 
-pub flag_weighs : (known : Bool) (t : ℕ) → weigh (as_flag known t) ≤ 8
+pub flag_weighs : (known : Bool) (t : ℕ) → weigh (listing (as_flag known t)) ≤ 8
 flag_weighs true t = omega arith
 flag_weighs false t = omega arith
 
-pub converted_weighs : (ty : Ty) (known : Bool) (t : ℕ) → weigh (converted ty known t) ≤ 8
+pub converted_weighs : (ty : Ty) (known : Bool) (t : ℕ) → weigh (listing (converted ty known t)) ≤ 8
 converted_weighs VoidY known t = omega arith
 converted_weighs IntY known t = omega arith
 converted_weighs BoolY known t = flag_weighs known t
@@ -97,10 +94,10 @@ converted_weighs (UnionY k) known t = omega arith
 converted_weighs (PointerY to) known t = omega arith
 converted_weighs (ArrayY of len) known t = omega arith
 
-structure_weighs : (size p a : ℕ) → weigh ((DoN (o.Move 3 a) ∷ DoN (o.Move 4 p) ∷ []) ++ copied size) ≤ 96
-structure_weighs size p a = let e = both (DoN (o.Move 3 a) ∷ DoN (o.Move 4 p) ∷ []) (copied size) in let f = copied_weighs size in omega (arith, e, f)
+structure_weighs : (size p a : ℕ) → weigh ((DoN (o.Move 3 a) ∷ DoN (o.Move 4 p) ∷ []) ++ listing (copied size)) ≤ 96
+structure_weighs size p a = let e = both (DoN (o.Move 3 a) ∷ DoN (o.Move 4 p) ∷ []) (listing (copied size)) in let f = copied_weighs size in omega (arith, e, f)
 
-pub stored_weighs : (h : Shape) (ty : Ty) (p a : ℕ) → weigh (stored h ty p a) ≤ 96
+pub stored_weighs : (h : Shape) (ty : Ty) (p a : ℕ) → weigh (listing (stored h ty p a)) ≤ 96
 stored_weighs h VoidY p a = omega arith
 stored_weighs h IntY p a = omega arith
 stored_weighs h BoolY p a = omega arith
@@ -110,7 +107,7 @@ stored_weighs h (UnionY k) p a = structure_weighs (words h (UnionY k)) p a
 stored_weighs h (PointerY to) p a = omega arith
 stored_weighs h (ArrayY of len) p a = omega arith
 
-pub word_weighs : (op : BinOp) (t a b : ℕ) → weigh (with_word op t a b) ≤ 32
+pub word_weighs : (op : BinOp) (t a b : ℕ) → weigh (listing (with_word op t a b)) ≤ 32
 word_weighs bin.Mul t a b = omega arith
 word_weighs bin.Div t a b = omega arith
 word_weighs bin.Mod t a b = omega arith
@@ -130,20 +127,20 @@ word_weighs bin.BitOr t a b = omega arith
 word_weighs bin.AndAlso t a b = omega arith
 word_weighs bin.OrElse t a b = omega arith
 
-pub stepped_weighs : (size t a b u : ℕ) → weigh (stepped size t a b u) ≤ 24
+pub stepped_weighs : (size t a b u : ℕ) → weigh (listing (stepped size t a b u)) ≤ 24
 stepped_weighs size t a b u = by (size == 1)
   where
     by : (one : Bool) → weigh (if one then DoN (o.Step t a b) ∷ [] else DoN (o.Const u size) ∷ DoN (o.Two IMUL b b u) ∷ DoN (o.Step t a b) ∷ []) ≤ 24
     by true = omega arith
     by false = omega arith
 
-back_weighs : (size t a b u : ℕ) → weigh (stepped_back size t a b u) ≤ 32
-back_weighs size t a b u = let e = both (DoN (o.One ISGN b b) ∷ []) (stepped size t a b u) in let f = stepped_weighs size t a b u in omega (arith, e, f)
+back_weighs : (size t a b u : ℕ) → weigh (listing (stepped_back size t a b u)) ≤ 32
+back_weighs size t a b u = let e = both (DoN (o.One ISGN b b) ∷ []) (listing (stepped size t a b u)) in let f = stepped_weighs size t a b u in omega (arith, e, f)
 
-distant_weighs : (size t a b u : ℕ) → weigh (distant size t a b u) ≤ 32
+distant_weighs : (size t a b u : ℕ) → weigh (listing (distant size t a b u)) ≤ 32
 distant_weighs size t a b u = omega arith
 
-pointer_weighs : (op : BinOp) (size : ℕ) (pointers : Bool) (t a b u : ℕ) → weigh (with_pointer op size pointers t a b u) ≤ 32
+pointer_weighs : (op : BinOp) (size : ℕ) (pointers : Bool) (t a b u : ℕ) → weigh (listing (with_pointer op size pointers t a b u)) ≤ 32
 pointer_weighs bin.Mul size pointers t a b u = omega arith
 pointer_weighs bin.Div size pointers t a b u = omega arith
 pointer_weighs bin.Mod size pointers t a b u = omega arith
@@ -164,22 +161,22 @@ pointer_weighs bin.BitOr size pointers t a b u = omega arith
 pointer_weighs bin.AndAlso size pointers t a b u = omega arith
 pointer_weighs bin.OrElse size pointers t a b u = omega arith
 
-pub operated_weighs : (h : Shape) (op : BinOp) (ta tb : Ty) (t a b u : ℕ) → weigh (operated h op ta tb t a b u) ≤ 32
+pub operated_weighs : (h : Shape) (op : BinOp) (ta tb : Ty) (t a b u : ℕ) → weigh (listing (operated h op ta tb t a b u)) ≤ 32
 operated_weighs h op ta tb t a b u = by (pointed (decayed ta)) (is_pointer (decayed tb))
   where
-    by : (q : Option Ty) (pointers : Bool) → weigh (operated_on h op q pointers t a b u) ≤ 32
+    by : (q : Option Ty) (pointers : Bool) → weigh (listing (operated_on h op q pointers t a b u)) ≤ 32
     by None pointers = word_weighs op t a b
     by (Some to) pointers = pointer_weighs op (words h to) pointers t a b u
 
-pub more_weighs : (h : Shape) (q : Option Ty) (t a u : ℕ) → weigh (one_more h q t a u) ≤ 24
+pub more_weighs : (h : Shape) (q : Option Ty) (t a u : ℕ) → weigh (listing (one_more h q t a u)) ≤ 24
 more_weighs h None t a u = omega arith
 more_weighs h (Some to) t a u = omega arith
 
-pub less_weighs : (h : Shape) (q : Option Ty) (t a u : ℕ) → weigh (one_less h q t a u) ≤ 24
+pub less_weighs : (h : Shape) (q : Option Ty) (t a u : ℕ) → weigh (listing (one_less h q t a u)) ≤ 24
 less_weighs h None t a u = omega arith
 less_weighs h (Some to) t a u = omega arith
 
-pub tested_weighs : (ty : Ty) (t : ℕ) → weigh (tested_as ty t) ≤ 16
+pub tested_weighs : (ty : Ty) (t : ℕ) → weigh (listing (tested_as ty t)) ≤ 16
 tested_weighs VoidY t = omega arith
 tested_weighs IntY t = omega arith
 tested_weighs BoolY t = omega arith
@@ -189,7 +186,7 @@ tested_weighs (UnionY k) t = omega arith
 tested_weighs (PointerY to) t = omega arith
 tested_weighs (ArrayY of len) t = omega arith
 
-pub negated_weighs : (ty : Ty) (t : ℕ) → weigh (negated_as ty t) ≤ 16
+pub negated_weighs : (ty : Ty) (t : ℕ) → weigh (listing (negated_as ty t)) ≤ 16
 negated_weighs VoidY t = omega arith
 negated_weighs IntY t = omega arith
 negated_weighs BoolY t = omega arith
@@ -199,9 +196,10 @@ negated_weighs (UnionY k) t = omega arith
 negated_weighs (PointerY to) t = omega arith
 negated_weighs (ArrayY of len) t = omega arith
 
-pub made_weighs : (ks : List ℕ) → weigh (made ks) ≡ 0
+pub made_weighs : (ks : List ℕ) → weigh (listing (made ks)) ≡ 0
 made_weighs [] = refl
 made_weighs (k ∷ ks) = let e = made_weighs ks in omega (arith, e)
 
-pub zeroed_weighs : (size : ℕ) → weigh (zeroed size) ≤ 72
-zeroed_weighs size = omega arith
+pub zeroed_weighs : (size : ℕ) → weigh (listing (zeroed size)) ≤ 72
+zeroed_weighs zero = omega arith
+zeroed_weighs (suc left) = omega arith

@@ -1,7 +1,8 @@
 use Rattle.std.proofs.Common.{◌≡◌, ◌++◌, map, drop}
 use Rattle.mid_code.specs.Functions.{node}
-use Rattle.lower_trees.specs.ListedParts.{made}
+use Rattle.lower_trees.specs.Pieces.{listing}
+use Rattle.lower_trees.specs.Parts.{made}
 use Rattle.lower_trees.proofs.cells.make.Given as goal
 
 abbrev pub invariant-locals : goal.invariant-locals
-invariant-locals l = map node l.out.items ++ made (drop l.k-index l.locals) ≡ map node l.initial.out.items ++ made l.locals
+invariant-locals l = map node l.out.items ++ listing (made (drop l.k-index l.locals)) ≡ map node l.initial.out.items ++ listing (made l.locals)

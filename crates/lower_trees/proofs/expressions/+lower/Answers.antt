@@ -7,8 +7,8 @@ use Rattle.c_meaning.specs.Kinds.{type_of}
 use Rattle.mid_code.specs.Functions.{node}
 use Rattle.lower_trees.specs.Shape.{result_of}
 use Rattle.lower_trees.specs.Counts.{sizes, sizes_of, sizes_all, one_size, value_sizes, value_temps}
-use Rattle.lower_trees.specs.Expressions.{second, beyond, behind_place}
-use Rattle.lower_trees.specs.ListedExpressions.{low, low_kind, low_value, low_test, lazy_of}
+use Rattle.lower_trees.specs.Pieces.{listing}
+use Rattle.lower_trees.specs.Expressions.{second, beyond, behind_place, low, low_kind, low_value, low_test, lazy_of}
 use Rattle.lower_trees.specs.View.{shape_of, tkind}
 use Rattle.lower_trees.proofs.Forms.{on_ok, if_ok, index_nodes, binary_nodes, lazy_nodes, assign_nodes, compound_nodes, joined_sizes, joined_count}
 use Rattle.lower_trees.proofs.expressions.+lower.Goals as goal
@@ -30,7 +30,7 @@ kind-returns-in_ok-first-in-None-clause-nodes t c =
     let none : lazy_of c.in-Binary.op ≡ None = sym c.lazy_of.ensures ∙ c.in-None.is in
     let eu : u ≡ second x n = c.in_ok-first-in-None.ensures.next in
     let ev : v ≡ beyond h x m = c.in_ok-first-in-None.ensures.local in
-    let a : p ≡ l ++ low_value h x n (n + 1) m = c.in_ok-first-in-None.ensures.nodes in
+    let a : p ≡ l ++ listing (low_value h x n (n + 1) m) = c.in_ok-first-in-None.ensures.nodes in
     let w = c.in_ok-first-in-None.first.temporary in
     let ew : w ≡ n = c.in_ok-first-in-None.ensures.temporary in
     let tx : ctype c.in_ok-first-in-None.first.ty.now ≡ type_of x = c.in_ok-first-in-None.ensures.ty in
@@ -54,7 +54,7 @@ kind-returns-in_ok-first-in-Some-clause-nodes t c =
     let un : u ≡ n + value_temps x = c.in_ok-first-in-Some.ensures.next in
     let eu : u + 1 ≡ second x n = omega (arith, un) in
     let ev : v ≡ beyond h x m = c.in_ok-first-in-Some.ensures.local in
-    let a : p ≡ l ++ low_test h x c.args.t n m = c.in_ok-first-in-Some.ensures.nodes in
+    let a : p ≡ l ++ listing (low_test h x c.args.t n m) = c.in_ok-first-in-Some.ensures.nodes in
     on_ok c.choice.result (lazy_nodes h k c.in-Binary.op c.in-Some.and x y (ctype c.args.ty.now) c.args.t n m u v l p q e some eu ev a) c.choice.ensures.nodes
 
 pub kind-returns-in_ok-place-in-Assign-None-default-default-clause-nodes : goal.kind-returns-in_ok-place-in-Assign-None-default-default-clause-nodes
@@ -73,7 +73,7 @@ kind-returns-in_ok-place-in-Assign-None-default-default-clause-nodes t c =
     let e : k ≡ AssignK None x y = search (rules, the_lemmas) in
     let eu : u ≡ behind_place x n = c.in_ok-place-in-Assign-None-default-default.ensures.next in
     let ev : v ≡ m + length (sizes h x) = c.in_ok-place-in-Assign-None-default-default.ensures.local in
-    let a : p ≡ l ++ low h x n (n + 1) m = c.in_ok-place-in-Assign-None-default-default.ensures.nodes in
+    let a : p ≡ l ++ listing (low h x n (n + 1) m) = c.in_ok-place-in-Assign-None-default-default.ensures.nodes in
     let w = c.in_ok-place-in-Assign-None-default-default.place.temporary in
     let ew : w ≡ n = c.in_ok-place-in-Assign-None-default-default.ensures.temporary in
     let tx : ctype c.in_ok-place-in-Assign-None-default-default.place.ty.now ≡ type_of x = c.in_ok-place-in-Assign-None-default-default.ensures.ty in
@@ -95,7 +95,7 @@ kind-returns-in_ok-place-in-Assign-Some-default-default-clause-nodes t c =
     let e : k ≡ AssignK (Some c.in-Assign-Some-default-default.op) x y = search (rules, the_lemmas) in
     let eu : u ≡ behind_place x n = c.in_ok-place-in-Assign-Some-default-default.ensures.next in
     let ev : v ≡ m + length (sizes h x) = c.in_ok-place-in-Assign-Some-default-default.ensures.local in
-    let a : p ≡ l ++ low h x n (n + 1) m = c.in_ok-place-in-Assign-Some-default-default.ensures.nodes in
+    let a : p ≡ l ++ listing (low h x n (n + 1) m) = c.in_ok-place-in-Assign-Some-default-default.ensures.nodes in
     let w = c.in_ok-place-in-Assign-Some-default-default.place.temporary in
     let ew : w ≡ n = c.in_ok-place-in-Assign-Some-default-default.ensures.temporary in
     let tx : ctype c.in_ok-place-in-Assign-Some-default-default.place.ty.now ≡ type_of x = c.in_ok-place-in-Assign-Some-default-default.ensures.ty in
@@ -117,7 +117,7 @@ kind-returns-in_ok-first-in-Index-clause-nodes t c =
     let e : k ≡ IndexK x y = search (rules, the_lemmas) in
     let eu : u ≡ second x n = c.in_ok-first-in-Index.ensures.next in
     let ev : v ≡ beyond h x m = c.in_ok-first-in-Index.ensures.local in
-    let a : p ≡ l ++ low_value h x n (n + 1) m = c.in_ok-first-in-Index.ensures.nodes in
+    let a : p ≡ l ++ listing (low_value h x n (n + 1) m) = c.in_ok-first-in-Index.ensures.nodes in
     let w = c.in_ok-first-in-Index.first.temporary in
     let ew : w ≡ n = c.in_ok-first-in-Index.ensures.temporary in
     on_ok c.element.result (index_nodes h k x y (ctype c.args.ty.now) c.args.t n m w u v l p q e ew eu ev a) c.element.ensures.nodes
@@ -226,25 +226,25 @@ pub kind-returns-in-Unary-clause-nodes : goal.kind-returns-in-Unary-clause-nodes
 kind-returns-in-Unary-clause-nodes t c =
     let h = shape_of c.args.s.now in
     let e : tkind c.args.of.now ≡ UnaryK c.in-Unary.op (texpr c.deref.result.now) = search (rules, the_lemmas) in
-    subst (λ z. OnOk c.unary.result (map node c.unary.new.out.items ≡ map node c.args.out.now.items ++ low_kind h z (ctype c.args.ty.now) c.args.t c.args.at.next c.args.at.local)) (sym e) c.unary.ensures.nodes
+    subst (λ z. OnOk c.unary.result (map node c.unary.new.out.items ≡ map node c.args.out.now.items ++ listing (low_kind h z (ctype c.args.ty.now) c.args.t c.args.at.next c.args.at.local))) (sym e) c.unary.ensures.nodes
 
 pub kind-returns-in-Arrow-clause-nodes : goal.kind-returns-in-Arrow-clause-nodes
 kind-returns-in-Arrow-clause-nodes t c =
     let h = shape_of c.args.s.now in
     let e : tkind c.args.of.now ≡ ArrowK (texpr c.deref-in-Arrow.result.now) c.in-Arrow.offset = search (rules, the_lemmas) in
-    subst (λ z. OnOk c.arrow.result (map node c.arrow.new.out.items ≡ map node c.args.out.now.items ++ low_kind h z (ctype c.args.ty.now) c.args.t c.args.at.next c.args.at.local)) (sym e) c.arrow.ensures.nodes
+    subst (λ z. OnOk c.arrow.result (map node c.arrow.new.out.items ≡ map node c.args.out.now.items ++ listing (low_kind h z (ctype c.args.ty.now) c.args.t c.args.at.next c.args.at.local))) (sym e) c.arrow.ensures.nodes
 
 pub kind-returns-in-Cast-clause-nodes : goal.kind-returns-in-Cast-clause-nodes
 kind-returns-in-Cast-clause-nodes t c =
     let h = shape_of c.args.s.now in
     let e : tkind c.args.of.now ≡ CastK (texpr c.deref-in-Cast.result.now) = search (rules, the_lemmas) in
-    subst (λ z. OnOk c.cast.result (map node c.cast.new.out.items ≡ map node c.args.out.now.items ++ low_kind h z (ctype c.args.ty.now) c.args.t c.args.at.next c.args.at.local)) (sym e) c.cast.ensures.nodes
+    subst (λ z. OnOk c.cast.result (map node c.cast.new.out.items ≡ map node c.args.out.now.items ++ listing (low_kind h z (ctype c.args.ty.now) c.args.t c.args.at.next c.args.at.local))) (sym e) c.cast.ensures.nodes
 
 pub kind-returns-in-Out-clause-nodes : goal.kind-returns-in-Out-clause-nodes
 kind-returns-in-Out-clause-nodes t c =
     let h = shape_of c.args.s.now in
     let e : tkind c.args.of.now ≡ OutK c.in-Out.port (texpr c.deref-in-Out.result.now) = search (rules, the_lemmas) in
-    subst (λ z. OnOk c.value_then.result (map node c.value_then.new.out.items ≡ map node c.args.out.now.items ++ low_kind h z (ctype c.args.ty.now) c.args.t c.args.at.next c.args.at.local)) (sym e) c.value_then.ensures.nodes
+    subst (λ z. OnOk c.value_then.result (map node c.value_then.new.out.items ≡ map node c.args.out.now.items ++ listing (low_kind h z (ctype c.args.ty.now) c.args.t c.args.at.next c.args.at.local))) (sym e) c.value_then.ensures.nodes
 
 pub kind-returns-in-Call-clause-sizes : goal.kind-returns-in-Call-clause-sizes
 kind-returns-in-Call-clause-sizes t c =

@@ -1,7 +1,7 @@
 use Rattle.std.proofs.Common.{◌≡◌, ◌+◌, ◌++◌, map, drop}
 use Rattle.c_types.specs.View.{ctype}
+use Rattle.lower_trees.specs.Expressions.{led}
 use Rattle.lower_trees.specs.Lowered.{args_from}
-use Rattle.lower_trees.specs.ListedExpressions.{led}
 use Rattle.lower_trees.proofs.functions.arguments.Given as goal
 
 abbrev pub invariant-params : goal.invariant-params

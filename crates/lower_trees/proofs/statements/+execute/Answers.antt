@@ -6,7 +6,9 @@ use Rattle.c_types.specs.declared.typed.TStmt.{the_lemmas}
 use Rattle.c_types.specs.declared.typed.TArm as al
 use Rattle.mid_code.specs.Functions.{node}
 use Rattle.lower_trees.specs.Counts.{value_temps, maybe_temps, stmt_temps, other_temps, stmts_temps, arms_temps, value_sizes, maybe_sizes, stmt_sizes, other_sizes, stmts_sizes, arms_sizes}
-use Rattle.lower_trees.specs.ListedStatements.{depth, low_label, low_stmt, low_arms}
+use Rattle.lower_trees.specs.Pieces.{listing}
+use Rattle.lower_trees.specs.Statements.{depth, low_stmt, low_arms}
+use Rattle.lower_trees.specs.inner.Enclosed.{low_label}
 use Rattle.lower_trees.specs.inner.MaybeStatements.{other_of}
 use Rattle.lower_trees.specs.View.{shape_of, jump_of}
 use Rattle.lower_trees.proofs.StatementForms.{if_length, do_while_length, for_length, switch_length, arms_many}
@@ -295,11 +297,11 @@ labelled-loop-arm-preserved t c =
     let rest = tarms (map tarm (drop (c.loop-arm.arm-index + 1) c.args.arms.now)) in
     let left : arms ≡ MoreB (tarm c.arm-item.result) rest = arms_left c.args.arms.now c.loop-arm.arm-index c.arm-item.result c.loop-arm-test.true c.arm-item.is in
     let i = c.loop-arm.invariant in
-    let was : Left h ty c.args.t b j (map node c.args.out.now.items ++ low_arms h ty c.args.t xs c.args.at.next c.args.at.local b j) (c.args.structures.now.items ++ arms_sizes h xs) (c.args.at.next + arms_temps xs) (c.args.at.local + length (arms_sizes h xs)) c.args.at.next c.loop-arm.met (map node c.loop-arm.out.items) (map node c.loop-arm.inside.items) c.loop-arm.structures.items c.loop-arm.here.next c.loop-arm.here.local arms =
+    let was : Left h ty c.args.t b j (map node c.args.out.now.items ++ listing (low_arms h ty c.args.t xs c.args.at.next c.args.at.local b j)) (c.args.structures.now.items ++ arms_sizes h xs) (c.args.at.next + arms_temps xs) (c.args.at.local + length (arms_sizes h xs)) c.args.at.next c.loop-arm.met (map node c.loop-arm.out.items) (map node c.loop-arm.inside.items) c.loop-arm.structures.items c.loop-arm.here.next c.loop-arm.here.local arms =
     record { nodes = i.nodes; sizes = i.sizes; temps = i.temps; locals = i.local; few = i.few; on = i.on } in
-    let before : Left h ty c.args.t b j (map node c.args.out.now.items ++ low_arms h ty c.args.t xs c.args.at.next c.args.at.local b j) (c.args.structures.now.items ++ arms_sizes h xs) (c.args.at.next + arms_temps xs) (c.args.at.local + length (arms_sizes h xs)) c.args.at.next c.loop-arm.met (map node c.loop-arm.out.items) (map node c.loop-arm.inside.items) c.loop-arm.structures.items c.loop-arm.here.next c.loop-arm.here.local (MoreB (tarm c.arm-item.result) rest) =
-    subst (λ z. Left h ty c.args.t b j (map node c.args.out.now.items ++ low_arms h ty c.args.t xs c.args.at.next c.args.at.local b j) (c.args.structures.now.items ++ arms_sizes h xs) (c.args.at.next + arms_temps xs) (c.args.at.local + length (arms_sizes h xs)) c.args.at.next c.loop-arm.met (map node c.loop-arm.out.items) (map node c.loop-arm.inside.items) c.loop-arm.structures.items c.loop-arm.here.next c.loop-arm.here.local z) left was in
-    let after : Left h ty c.args.t b j (map node c.args.out.now.items ++ low_arms h ty c.args.t xs c.args.at.next c.args.at.local b j) (c.args.structures.now.items ++ arms_sizes h xs) (c.args.at.next + arms_temps xs) (c.args.at.local + length (arms_sizes h xs)) c.args.at.next c.match-arm.met (map node c.match-arm.out.items) (map node c.match-arm.inside.items) c.match-arm.structures.items c.match-arm.here.next c.match-arm.here.local rest =
+    let before : Left h ty c.args.t b j (map node c.args.out.now.items ++ listing (low_arms h ty c.args.t xs c.args.at.next c.args.at.local b j)) (c.args.structures.now.items ++ arms_sizes h xs) (c.args.at.next + arms_temps xs) (c.args.at.local + length (arms_sizes h xs)) c.args.at.next c.loop-arm.met (map node c.loop-arm.out.items) (map node c.loop-arm.inside.items) c.loop-arm.structures.items c.loop-arm.here.next c.loop-arm.here.local (MoreB (tarm c.arm-item.result) rest) =
+    subst (λ z. Left h ty c.args.t b j (map node c.args.out.now.items ++ listing (low_arms h ty c.args.t xs c.args.at.next c.args.at.local b j)) (c.args.structures.now.items ++ arms_sizes h xs) (c.args.at.next + arms_temps xs) (c.args.at.local + length (arms_sizes h xs)) c.args.at.next c.loop-arm.met (map node c.loop-arm.out.items) (map node c.loop-arm.inside.items) c.loop-arm.structures.items c.loop-arm.here.next c.loop-arm.here.local z) left was in
+    let after : Left h ty c.args.t b j (map node c.args.out.now.items ++ listing (low_arms h ty c.args.t xs c.args.at.next c.args.at.local b j)) (c.args.structures.now.items ++ arms_sizes h xs) (c.args.at.next + arms_temps xs) (c.args.at.local + length (arms_sizes h xs)) c.args.at.next c.match-arm.met (map node c.match-arm.out.items) (map node c.match-arm.inside.items) c.match-arm.structures.items c.match-arm.here.next c.match-arm.here.local rest =
     elim c.match-arm.branch [
       | labelled-in-Case+in_ok-close_label-in-Case w ↦
           let label : is_stmt (tarm c.arm-item.result) ≡ false = search (rules, al.the_lemmas, w.in-Case.is) in
@@ -322,10 +324,10 @@ labelled-loop-arm-preserved t c =
       | labelled-in-Stmt+in_ok-here-in-Stmt w ↦
           let a = tstmt w.in-Stmt.a in
           let is : tarm c.arm-item.result ≡ StmtB a = search (rules, al.the_lemmas, w.in-Stmt.is) in
-          let on : Left h ty c.args.t b j (map node c.args.out.now.items ++ low_arms h ty c.args.t xs c.args.at.next c.args.at.local b j) (c.args.structures.now.items ++ arms_sizes h xs) (c.args.at.next + arms_temps xs) (c.args.at.local + length (arms_sizes h xs)) c.args.at.next c.loop-arm.met (map node c.loop-arm.out.items) (map node c.loop-arm.inside.items) c.loop-arm.structures.items c.loop-arm.here.next c.loop-arm.here.local (MoreB (StmtB a) rest) =
-          subst (λ z. Left h ty c.args.t b j (map node c.args.out.now.items ++ low_arms h ty c.args.t xs c.args.at.next c.args.at.local b j) (c.args.structures.now.items ++ arms_sizes h xs) (c.args.at.next + arms_temps xs) (c.args.at.local + length (arms_sizes h xs)) c.args.at.next c.loop-arm.met (map node c.loop-arm.out.items) (map node c.loop-arm.inside.items) c.loop-arm.structures.items c.loop-arm.here.next c.loop-arm.here.local (MoreB z rest)) is before in
+          let on : Left h ty c.args.t b j (map node c.args.out.now.items ++ listing (low_arms h ty c.args.t xs c.args.at.next c.args.at.local b j)) (c.args.structures.now.items ++ arms_sizes h xs) (c.args.at.next + arms_temps xs) (c.args.at.local + length (arms_sizes h xs)) c.args.at.next c.loop-arm.met (map node c.loop-arm.out.items) (map node c.loop-arm.inside.items) c.loop-arm.structures.items c.loop-arm.here.next c.loop-arm.here.local (MoreB (StmtB a) rest) =
+          subst (λ z. Left h ty c.args.t b j (map node c.args.out.now.items ++ listing (low_arms h ty c.args.t xs c.args.at.next c.args.at.local b j)) (c.args.structures.now.items ++ arms_sizes h xs) (c.args.at.next + arms_temps xs) (c.args.at.local + length (arms_sizes h xs)) c.args.at.next c.loop-arm.met (map node c.loop-arm.out.items) (map node c.loop-arm.inside.items) c.loop-arm.structures.items c.loop-arm.here.next c.loop-arm.here.local (MoreB z rest)) is before in
           let eo : map node c.match-arm.out.items ≡ map node c.loop-arm.out.items = search (rules, w.out-is) in
-          let ei : map node c.match-arm.inside.items ≡ map node c.loop-arm.inside.items ++ low_stmt h ty a c.loop-arm.here.next c.loop-arm.here.local b j = search (rules, w.inside-is, w.in_ok-here-in-Stmt.ensures.nodes) in
+          let ei : map node c.match-arm.inside.items ≡ map node c.loop-arm.inside.items ++ listing (low_stmt h ty a c.loop-arm.here.next c.loop-arm.here.local b j) = search (rules, w.inside-is, w.in_ok-here-in-Stmt.ensures.nodes) in
           let em : c.match-arm.met ≡ c.loop-arm.met = search (rules, w.met-is) in
           let es : c.match-arm.structures.items ≡ c.loop-arm.structures.items ++ stmt_sizes h a = search (rules, w.structures-is, w.in_ok-here-in-Stmt.ensures.sizes) in
           let en : c.match-arm.here.next ≡ c.loop-arm.here.next + stmt_temps a = search (rules, w.here-is, w.in_ok-here-in-Stmt.ensures.next) in

@@ -3,14 +3,16 @@ use Rattle.c_types.specs.View.{ctype, tstmt, tstmts, tarm, tarms}
 use Rattle.c_types.specs.Nodes.{statement_nodes, maybe_statement_nodes, statements_nodes, arms_nodes}
 use Rattle.mid_code.specs.Functions.{node}
 use Rattle.lower_trees.specs.Counts.{stmts_temps, stmts_sizes, arms_temps, arms_sizes}
-use Rattle.lower_trees.specs.ListedStatements.{low_stmts, low_arms, arms_open}
+use Rattle.lower_trees.specs.Pieces.{listing}
+use Rattle.lower_trees.specs.Statements.{low_stmts, low_arms}
+use Rattle.lower_trees.specs.inner.Enclosed.{arms_open}
 use Rattle.lower_trees.specs.inner.MaybeStatements.{other_of}
 use Rattle.lower_trees.specs.View.{shape_of, jump_of}
 use Rattle.lower_trees.proofs.statements.+execute.Given as goal
 
 abbrev pub invariant-statements-loop-a : goal.invariant-statements-loop-a
 invariant-statements-loop-a l = record {
-  nodes : map node l.out.items ++ low_stmts (shape_of l.s) (ctype l.exits.gives.now) (tstmts (map tstmt (drop l.a-index l.body))) l.here.next l.here.local l.exits.breaks (jump_of l.exits.continues) ≡ map node l.initial.out.items ++ low_stmts (shape_of l.s) (ctype l.exits.gives.now) (tstmts (map tstmt l.body)) l.fn.at.next l.fn.at.local l.exits.breaks (jump_of l.exits.continues);
+  nodes : map node l.out.items ++ listing (low_stmts (shape_of l.s) (ctype l.exits.gives.now) (tstmts (map tstmt (drop l.a-index l.body))) l.here.next l.here.local l.exits.breaks (jump_of l.exits.continues)) ≡ map node l.initial.out.items ++ listing (low_stmts (shape_of l.s) (ctype l.exits.gives.now) (tstmts (map tstmt l.body)) l.fn.at.next l.fn.at.local l.exits.breaks (jump_of l.exits.continues));
   sizes : l.structures.items ++ stmts_sizes (shape_of l.s) (tstmts (map tstmt (drop l.a-index l.body))) ≡ l.initial.structures.items ++ stmts_sizes (shape_of l.s) (tstmts (map tstmt l.body));
   temps : l.here.next + stmts_temps (tstmts (map tstmt (drop l.a-index l.body))) ≡ l.fn.at.next + stmts_temps (tstmts (map tstmt l.body));
   local : l.here.local + length (stmts_sizes (shape_of l.s) (tstmts (map tstmt (drop l.a-index l.body)))) ≡ l.fn.at.local + length (stmts_sizes (shape_of l.s) (tstmts (map tstmt l.body)));
@@ -20,7 +22,7 @@ invariant-statements-loop-a l = record {
 
 abbrev pub invariant-labelled-loop-arm : goal.invariant-labelled-loop-arm
 invariant-labelled-loop-arm l = record {
-  nodes : map node l.out.items ++ arms_open l.met (map node l.inside.items) (shape_of l.s) (ctype l.exits.gives.now) l.t (tarms (map tarm (drop l.arm-index l.arms))) l.here.next l.here.local l.exits.breaks (jump_of l.exits.continues) ≡ map node l.initial.out.items ++ low_arms (shape_of l.s) (ctype l.exits.gives.now) l.t (tarms (map tarm l.arms)) l.fn.at.next l.fn.at.local l.exits.breaks (jump_of l.exits.continues);
+  nodes : map node l.out.items ++ arms_open l.met (map node l.inside.items) (shape_of l.s) (ctype l.exits.gives.now) l.t (tarms (map tarm (drop l.arm-index l.arms))) l.here.next l.here.local l.exits.breaks (jump_of l.exits.continues) ≡ map node l.initial.out.items ++ listing (low_arms (shape_of l.s) (ctype l.exits.gives.now) l.t (tarms (map tarm l.arms)) l.fn.at.next l.fn.at.local l.exits.breaks (jump_of l.exits.continues));
   sizes : l.structures.items ++ arms_sizes (shape_of l.s) (tarms (map tarm (drop l.arm-index l.arms))) ≡ l.initial.structures.items ++ arms_sizes (shape_of l.s) (tarms (map tarm l.arms));
   temps : l.here.next + arms_temps (tarms (map tarm (drop l.arm-index l.arms))) ≡ l.fn.at.next + arms_temps (tarms (map tarm l.arms));
   local : l.here.local + length (arms_sizes (shape_of l.s) (tarms (map tarm (drop l.arm-index l.arms)))) ≡ l.fn.at.local + length (arms_sizes (shape_of l.s) (tarms (map tarm l.arms)));

@@ -5,12 +5,12 @@ use Rattle.std.specs.Prelude.{Option, Some, None, Result, Ok, Err, IfSome, lengt
 use Rattle.std.proofs.lemmas.Option.{IfSome_then}
 use Rattle.kit_base.specs.Held.{Held}
 use Rattle.kit_base.specs.Effects.{Effect, done, all_done}
+use Rattle.kit_base.specs.declared.failure.Failure.TheVariants as failures
 use Rattle.kit_tools.specs.declared.refusal.DueRefusal.{DueRefusal}
 use Rattle.kit_tools.specs.declared.refusal.DueRefusal.TheVariants as dues
-use Rattle.kit_tools.specs.declared.refusal.Refusal.{Refusal}
-use Rattle.kit_tools.specs.declared.refusal.Refusal.TheVariants as refusals
+use Rattle.kit_tools.specs.declared.refusal.RefusalCause.TheVariants as refusals
 use Rattle.kit_tools.specs.declared.shown.Shown.{Shown}
-use Rattle.kit_tools.specs.Refusal.{line_of, status_of}
+use Rattle.kit_tools.specs.Refusal.{Refusal, line_of, status_of}
 use Rattle.kit_tools.specs.Work.{Work}
 use Rattle.kit_tools.specs.Carrying.{LeavesBy, shown_status, text_of}
 use Rattle.kit_words.specs.Command.{Command, Build, Convert, Trace, Run, Play, Watch, Bounds, Check, Gen}
@@ -38,25 +38,25 @@ pub plainly : (o c : Option Command) → o ≡ c → (r : Result Shown Refusal) 
 plainly o c is r held after none h = subst (λ x. IfSome held (λ m. Carries r x m after)) (sym is) (plain c r held after none h)
 
 -- the words are no form
-pub no_form : (o : Option Command) → o ≡ None → (held : Option Held) → IfSome held (λ m. Carries (Err (refusals.Due dues.Usage)) o m held)
+pub no_form : (o : Option Command) → o ≡ None → (held : Option Held) → IfSome held (λ m. Carries (Err (failures.Cause (refusals.Due dues.Usage))) o m held)
 no_form o is None = tt
-no_form o is (Some m) = plainly o None is (Err (refusals.Due dues.Usage)) (Some m) (Some m) refl (refl, refl)
+no_form o is (Some m) = plainly o None is (Err (failures.Cause (refusals.Due dues.Usage))) (Some m) (Some m) refl (refl, refl)
 
 -- memory may run out before the front
-pub not_begun : (c : Option Command) (r : Result Shown Refusal) (held after : Option Held) → r ≡ Err refusals.Memory → after ≡ held → IfSome held (λ m. Carries r c m after)
+pub not_begun : (c : Option Command) (r : Result Shown Refusal) (held after : Option Held) → r ≡ Err failures.Memory → after ≡ held → IfSome held (λ m. Carries r c m after)
 not_begun c r None after is same = tt
 not_begun c r (Some m) after is same = inr (subst (λ x. StopsBy x (front_of c) m after) (sym is) (inl same))
 
 -- ---- from what was left and what was put to the outcome
 
 module _ (front : List Effect) (m : Held) (status : ℕ) (after : Option Held) (before put : Option (List ℕ)) where
-  whole_line : (list : List ℕ) → putting list before ≡ putting (take (length list) list ++ take 0 (line_of refusals.Memory)) before
+  whole_line : (list : List ℕ) → putting list before ≡ putting (take (length list) list ++ take 0 (line_of failures.Memory)) before
   whole_line list = ap (λ xs. putting xs before) (sym (append-nil (take (length list) list) ∙ take-length list))
 
   stopped_whole : (e : Refusal) → ComesInFront e front m after → status ≡ status_of e → put ≡ putting (line_of e) before → StopsInFront front m status after before put
-  stopped_whole (refusals.Due r) comes s p = absurd comes
-  stopped_whole (refusals.Failed name) comes s p = FrontFault name comes s p
-  stopped_whole refusals.Memory comes s p = FrontCutOff refusals.Memory comes (inl s) (length (line_of refusals.Memory)) 0 (p ∙ whole_line (line_of refusals.Memory))
+  stopped_whole (failures.Cause (refusals.Due r)) comes s p = absurd comes
+  stopped_whole (failures.Cause (refusals.Failed name)) comes s p = FrontFault name comes s p
+  stopped_whole failures.Memory comes s p = FrontCutOff failures.Memory comes (inl s) (length (line_of failures.Memory)) 0 (p ∙ whole_line (line_of failures.Memory))
 
   stopped : (e : Refusal) → ComesInFront e front m after → Shows (status_of e) (line_of e) status before put → StopsInFront front m status after before put
   stopped e comes (inl h) = stopped_whole e comes h.0 h.1
@@ -87,11 +87,11 @@ module _ (Due : Result Work DueRefusal → Type 0) (Reads : List ℕ → Type 0)
 
   stopped_plain : StopsInFront [] m status after before put → EndsAs Due Reads m status after before put
   stopped_plain (FrontFault name cut s p) = absurd cut
-  stopped_plain (FrontCutOff (refusals.Due r) comes s count line_count p) = absurd comes
-  stopped_plain (FrontCutOff (refusals.Failed name) comes s count line_count p) = absurd comes
-  stopped_plain (FrontCutOff refusals.Memory (inl same) s count line_count p) =
-      cut_off s (record { whole = line_of refusals.Memory; shown = inr (refusals.Memory, inl same, refl); count = count; line_count = line_count; text = p })
-  stopped_plain (FrontCutOff refusals.Memory (inr cut) s count line_count p) = absurd cut.1
+  stopped_plain (FrontCutOff (failures.Cause (refusals.Due r)) comes s count line_count p) = absurd comes
+  stopped_plain (FrontCutOff (failures.Cause (refusals.Failed name)) comes s count line_count p) = absurd comes
+  stopped_plain (FrontCutOff failures.Memory (inl same) s count line_count p) =
+      cut_off s (record { whole = line_of failures.Memory; shown = inr (failures.Memory, inl same, refl); count = count; line_count = line_count; text = p })
+  stopped_plain (FrontCutOff failures.Memory (inr cut) s count line_count p) = absurd cut.1
 
 pub plain_ends : (c : Option Command) (m : Held) (status : ℕ) (after : Option Held) (before put : Option (List ℕ)) → front_of c ≡ [] → FormEnds c m status after before put
     → EndsAs (form_due c m) (command_reads c m) m status after before put

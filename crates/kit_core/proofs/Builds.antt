@@ -6,7 +6,7 @@ use Rattle.build_core.specs.declared.error.BuildErr.{BuildErr}
 use Rattle.build_core.specs.declared.error.BuildErr.TheVariants as errors
 use Rattle.build_core.specs.declared.building.Built.{Built}
 use Rattle.build_core.specs.Build.{Builds, IsBuilt}
-use Rattle.kit_tools.specs.declared.refusal.Refusal.{Refusal}
+use Rattle.kit_tools.specs.Refusal.{Refusal}
 use Rattle.kit_core.specs.Due.{built_work, text_build_due, unbuilt}
 use Rattle.kit_core.specs.inner.Checking.{TextBuilt}
 

@@ -5,7 +5,7 @@ use Rattle.kit_base.specs.Held.{Held}
 use Rattle.build_core.specs.declared.error.BuildErr.{BuildErr}
 use Rattle.build_core.specs.declared.error.BuildErr.TheVariants as errors
 use Rattle.build_core.specs.Checked.{Checks}
-use Rattle.kit_tools.specs.declared.refusal.Refusal.{Refusal}
+use Rattle.kit_tools.specs.Refusal.{Refusal}
 use Rattle.kit_tools.specs.Work.{accepted}
 use Rattle.kit_core.specs.Due.{text_check_due, unbuilt}
 use Rattle.kit_core.specs.inner.Checking.{TextChecked}

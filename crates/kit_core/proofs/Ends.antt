@@ -6,12 +6,13 @@ use Rattle.kit_base.specs.Counts.{Rose}
 use Rattle.kit_base.specs.Effects.{all_done, CutShort}
 use Rattle.kit_base.specs.Outside.{due}
 use Rattle.kit_base.specs.declared.outside.FileErr.{FileErr}
+use Rattle.kit_base.specs.declared.failure.Failure.TheVariants as failures
 use Rattle.build_core.specs.declared.building.Built.{Built}
 use Rattle.build_core.specs.declared.error.BuildErr.{BuildErr}
 use Rattle.build_core.specs.Build.{HasNoParts, IsBuilt}
 use Rattle.kit_tools.specs.declared.refusal.DueRefusal.{DueRefusal}
-use Rattle.kit_tools.specs.declared.refusal.Refusal.{Refusal}
-use Rattle.kit_tools.specs.declared.refusal.Refusal.TheVariants as refusals
+use Rattle.kit_tools.specs.Refusal.{Refusal}
+use Rattle.kit_tools.specs.declared.refusal.RefusalCause.TheVariants as refusals
 use Rattle.kit_tools.specs.Causes.{IsUnrisen}
 use Rattle.kit_tools.specs.Running.{settings_due, run_due}
 use Rattle.kit_tools.specs.Watching.{watch_settings_due}
@@ -33,11 +34,11 @@ module _ (Due : Result Work DueRefusal → Type 0) (Reads : List ℕ → Type 0)
   not_cut name w d h = subst (λ es. CutShort name es (Some m) after) (none w d) h
 
   comes_still : (e : Refusal) → ComesBy e Due Reads m after → after ≡ Some m
-  comes_still (refusals.Due r) h = h.1
-  comes_still (refusals.Failed n) (inl h) = h.1
-  comes_still (refusals.Failed n) (inr (w, d, h)) = absurd (not_cut n w d h)
-  comes_still refusals.Memory (inl h) = h
-  comes_still refusals.Memory (inr (n, (w, d, h))) = absurd (not_cut n w d h)
+  comes_still (failures.Cause (refusals.Due r)) h = h.1
+  comes_still (failures.Cause (refusals.Failed n)) (inl h) = h.1
+  comes_still (failures.Cause (refusals.Failed n)) (inr (w, d, h)) = absurd (not_cut n w d h)
+  comes_still failures.Memory (inl h) = h
+  comes_still failures.Memory (inr (n, (w, d, h))) = absurd (not_cut n w d h)
 
   shown_still : (text : List ℕ) → IsShown text Due Reads m after → after ≡ Some m
   shown_still text (inl (w, d, files, t)) = done_still w d files
@@ -46,7 +47,7 @@ module _ (Due : Result Work DueRefusal → Type 0) (Reads : List ℕ → Type 0)
   ends_still : (status : ℕ) (before put : Option (List ℕ)) → EndsAs Due Reads m status after before put → after ≡ Some m
   ends_still status before put (Done h) = done_still h.work h.is_due h.files
   ends_still status before put (Refused h) = h.files
-  ends_still status before put (FileFault h) = comes_still (refusals.Failed h.name) h.files
+  ends_still status before put (FileFault h) = comes_still (failures.Cause (refusals.Failed h.name)) h.files
   ends_still status before put (OutOfMemory s h) = shown_still h.whole h.shown
   ends_still status before put (SinkFault s h) = shown_still h.whole h.shown
 
@@ -70,16 +71,16 @@ no_build law project cart map_name m (Err f) e w h k = absurd cc
 
 -- nor of a play whose input is refused
 no_play : Law → (project map_name : List ℕ) (words : RunWords) (m : Held) (r : Result (List ℕ) FileErr) (e : DueRefusal) (w : Work)
-    → read_build_refused project m r e ⊎ (settings_due words m ≡ Err (refusals.Due e)) → read_play_due project map_name words m r (Ok w) → ⊥
+    → read_build_refused project m r e ⊎ (settings_due words m ≡ Err (failures.Cause (refusals.Due e))) → read_play_due project map_name words m r (Ok w) → ⊥
 no_play law project map_name words m (Ok text) e w (inl h) k = law m text k.built h.0 k.is_built h.1
-no_play law project map_name words m (Ok text) e w (inr h) k = differ (settings_due words m) (refusals.Due e) k.settings h k.settings_are
+no_play law project map_name words m (Ok text) e w (inr h) k = differ (settings_due words m) (failures.Cause (refusals.Due e)) k.settings h k.settings_are
 no_play law project map_name words m (Err f) e w h k = absurd cc
 
 -- nor of a watch whose input is refused
 no_watch : Law → (words : WatchWords) (m : Held) (r : Result (List ℕ) FileErr) (e : DueRefusal) (w : Work)
-    → read_build_refused words.project m r e ⊎ (watch_settings_due words m ≡ Err (refusals.Due e)) → read_watch_due words m r (Ok w) → ⊥
+    → read_build_refused words.project m r e ⊎ (watch_settings_due words m ≡ Err (failures.Cause (refusals.Due e))) → read_watch_due words m r (Ok w) → ⊥
 no_watch law words m (Ok text) e w (inl h) k = law m text k.built h.0 k.is_built h.1
-no_watch law words m (Ok text) e w (inr h) k = differ (watch_settings_due words m) (refusals.Due e) k.settings h k.settings_are
+no_watch law words m (Ok text) e w (inr h) k = differ (watch_settings_due words m) (failures.Cause (refusals.Due e)) k.settings h k.settings_are
 no_watch law words m (Err f) e w h k = absurd cc
 
 -- nor of `bounds` whose input is refused
@@ -96,9 +97,9 @@ no_gen (Err r) project cart map_name m e w h k = absurd cc
 form_still : Law → (c : Option Command) (m : Held) (e : DueRefusal) → form_refused c m e → (w : Work) → form_due c m (Ok w) → w.effects ≡ []
 form_still law None m e h w k = absurd cc
 form_still law (Some (Build project cart map_name)) m e h w k = absurd (no_build law project cart map_name m (due m project) e w h k)
-form_still law (Some (Convert conversion source target)) m e h w k = absurd (differ (convert_due conversion source target m) (refusals.Due e) w h k)
-form_still law (Some (Trace cart answers card steps)) m e h w k = absurd (differ (trace_due cart answers card steps m) (refusals.Due e) w h k)
-form_still law (Some (Run words)) m e h w k = absurd (differ (run_due words m) (refusals.Due e) w h k)
+form_still law (Some (Convert conversion source target)) m e h w k = absurd (differ (convert_due conversion source target m) (failures.Cause (refusals.Due e)) w h k)
+form_still law (Some (Trace cart answers card steps)) m e h w k = absurd (differ (trace_due cart answers card steps m) (failures.Cause (refusals.Due e)) w h k)
+form_still law (Some (Run words)) m e h w k = absurd (differ (run_due words m) (failures.Cause (refusals.Due e)) w h k)
 form_still law (Some (Play project map_name words)) m e h w k = absurd (no_play law project map_name words m (due m project) e w h k)
 form_still law (Some (Watch words)) m e h w k = absurd (no_watch law words m (due m words.project) e w h k)
 form_still law (Some (Bounds project cart map_name text_name)) m e h w k = absurd (no_bounds law project cart map_name text_name m (due m project) e w h k)

@@ -8,6 +8,7 @@ use Rattle.std.proofs.lemmas.Slice.Eq.{bytes_eq-Decides}
 use Rattle.kit_base.specs.Held.{Held}
 use Rattle.kit_base.specs.Effects.{Effect, all_done, written_file}
 use Rattle.kit_base.proofs.Cuts.{all_done-append}
+use Rattle.kit_base.specs.declared.failure.Failure.TheVariants as failures
 use Rattle.cart_format.specs.Cartridge.{Cartridge}
 use Rattle.v32_console.specs.Setup.{Setup}
 use Rattle.run_core.specs.Stands.{RunParts, RunStands}
@@ -21,8 +22,8 @@ use Rattle.build_core.specs.Build.{IsBuilt}
 use Rattle.build_core.specs.Reached.{IsReadToBuild}
 use Rattle.cart_format.specs.Reading.{cart_of}
 use Rattle.kit_tools.specs.declared.refusal.DueRefusal.{DueRefusal}
-use Rattle.kit_tools.specs.declared.refusal.Refusal.{Refusal}
-use Rattle.kit_tools.specs.declared.refusal.Refusal.TheVariants as refusals
+use Rattle.kit_tools.specs.Refusal.{Refusal}
+use Rattle.kit_tools.specs.declared.refusal.RefusalCause.TheVariants as refusals
 use Rattle.kit_tools.specs.declared.shown.Shown.{Shown}
 use Rattle.kit_tools.specs.Work.{Work}
 use Rattle.kit_tools.specs.Carrying.{FailsIn, IsCarried, IsCut, LeavesBy}
@@ -46,10 +47,10 @@ use Rattle.kit_core.proofs.Writes.{get_written, get_unwritten}
 -- ---- the parts
 
 -- memory may run out before the first output is begun
-pub outputs_not_begun : (n : ℕ) (cart map_name : List ℕ) (b : Built) (c : Cartridge) (r : Result Shown Refusal) (held : Option Held) → r ≡ Err refusals.Memory
+pub outputs_not_begun : (n : ℕ) (cart map_name : List ℕ) (b : Built) (c : Cartridge) (r : Result Shown Refusal) (held : Option Held) → r ≡ Err failures.Memory
     → IsCarried (gen_work n cart map_name b c) r held held
 outputs_not_begun n cart map_name b c r held is = subst (λ x. IsCarried (gen_work n cart map_name b c) x held held) (sym is)
-    (in_first refusals.Memory (written_file cart b.cart) (written_file map_name (map_text b.map)) held held (not_begun cart b.cart held))
+    (in_first failures.Memory (written_file cart b.cart) (written_file map_name (map_text b.map)) held held (not_begun cart b.cart held))
 
 -- the outputs are done, and the run
 pub outputs_written : (n : ℕ) (cart map_name : List ℕ) (b : Built) (c : Cartridge) (front : List ℕ) (color : ℕ)
@@ -72,7 +73,7 @@ module _ (n : ℕ) (project cart map_name : List ℕ) where
   gen_refused e None h1 built reached same = tt
   gen_refused e (Some m) h1 built reached same = refused (functions_gen_due n project cart map_name m) (IsReadToBuild m project_text) e m h1 built reached same
 
-  pub gen_no_memory : (h0 h1 : Option Held) → h1 ≡ h0 → GenLeft h0 h1 (Err refusals.Memory)
+  pub gen_no_memory : (h0 h1 : Option Held) → h1 ≡ h0 → GenLeft h0 h1 (Err failures.Memory)
   gen_no_memory None h1 same = tt
   gen_no_memory (Some m) h1 same = inl same
 
@@ -95,9 +96,9 @@ module _ (n : ℕ) (project cart map_name : List ℕ) where
 
 -- a cut is one inside the front
 in_front : (e : Refusal) (front : List Effect) (m : Held) (after : Option Held) → IsCut e front (Some m) after → ComesInFront e front m after
-in_front (refusals.Due r) front m after h = absurd h
-in_front (refusals.Failed name) front m after h = h
-in_front refusals.Memory front m after h = inr h
+in_front (failures.Cause (refusals.Due r)) front m after h = absurd h
+in_front (failures.Cause (refusals.Failed name)) front m after h = h
+in_front failures.Memory front m after h = inr h
 
 module _ (number project cart map_name : List ℕ) where
   abbrev pub GenCarries : Option Held → Option Held → Result Shown Refusal → Type 0
@@ -105,13 +106,13 @@ module _ (number project cart map_name : List ℕ) where
 
   -- the number is told, or memory runs out
   number_refused : (e : Refusal) (m : Held) → GivesNumber (Err e) (functions_due number) → Carries (Err e) (Some (Gen number project cart map_name)) m (Some m)
-  number_refused (refusals.Due r) m h = inl (record {
+  number_refused (failures.Cause (refusals.Due r)) m h = inl (record {
     made = m;
     made_is = ap (λ d. all_done (sources_due project d) (Some m)) h;
     leaves = (subst (λ d. number_gen_due d project cart map_name m (Err r)) (sym h) refl, refl);
   })
-  number_refused (refusals.Failed name) m h = absurd h
-  number_refused refusals.Memory m h = inr (inl refl)
+  number_refused (failures.Cause (refusals.Failed name)) m h = absurd h
+  number_refused failures.Memory m h = inr (inl refl)
 
   pub without_number : (e : Refusal) (h0 : Option Held) → GivesNumber (Err e) (functions_due number) → GenCarries h0 h0 (Err e)
   without_number e None h = tt

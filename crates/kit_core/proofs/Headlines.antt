@@ -16,10 +16,9 @@ use Rattle.cart_format.specs.Reading.{cart_of}
 use Rattle.mid_code.specs.Agrees.{AgreesWithin}
 use Rattle.project_text.specs.declared.map.Map.{Map}
 use Rattle.project_text.specs.MapText.{map_text}
-use Rattle.kit_tools.specs.declared.refusal.Refusal.{Refusal}
 use Rattle.kit_tools.specs.declared.refusal.DueRefusal.{DueRefusal}
 use Rattle.kit_tools.specs.declared.refusal.DueRefusal.TheVariants as dues
-use Rattle.kit_tools.specs.Refusal.{due_status}
+use Rattle.kit_tools.specs.Refusal.{Refusal, due_status}
 use Rattle.kit_words.specs.Command.{command_of}
 use Rattle.kit_words.proofs.Created.{build_differ}
 use Rattle.kit_tools.specs.Inputs.{◌>>=◌}

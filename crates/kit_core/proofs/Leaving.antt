@@ -6,6 +6,7 @@ use Rattle.std.proofs.lemmas.Cmp.{nat_list_cmp_total}
 use Rattle.kit_base.specs.Held.{Held, emptied}
 use Rattle.kit_base.specs.Effects.{Effect, Creates, Appends, all_done, done, CutShort}
 use Rattle.kit_base.proofs.Cuts.{all_done-append, cut_second}
+use Rattle.kit_base.specs.declared.failure.Failure.TheVariants as failures
 use Rattle.run_core.specs.Outputs.{run_outputs}
 use Rattle.output_laws.specs.Begun.{AreBegun, AreFronts}
 use Rattle.output_laws.specs.Standing.{AreApart, FrontsStand}
@@ -13,8 +14,8 @@ use Rattle.output_laws.proofs.Begun.{begun_fronts}
 use Rattle.output_laws.proofs.Outputs.{outputs_files}
 use Rattle.kit_words.specs.Command.{RunWords, Run, command_of}
 use Rattle.kit_tools.specs.declared.refusal.DueRefusal.{DueRefusal}
-use Rattle.kit_tools.specs.declared.refusal.Refusal.{Refusal}
-use Rattle.kit_tools.specs.declared.refusal.Refusal.TheVariants as refusals
+use Rattle.kit_tools.specs.Refusal.{Refusal}
+use Rattle.kit_tools.specs.declared.refusal.RefusalCause.TheVariants as refusals
 use Rattle.kit_tools.specs.Running.{Game, game_due, names_in, run_due}
 use Rattle.kit_tools.specs.Work.{Work, ComesBy}
 use Rattle.kit_core.specs.Due.{command_reads, form_due}
@@ -77,10 +78,10 @@ module _ (words : List (List ℕ)) (held : Held) (after : Option Held) where
   }
 
   front_cut : (e : Refusal) → ComesInFront e front held after → LeavesFronts words held after
-  front_cut (refusals.Due r) h = absurd h
-  front_cut (refusals.Failed name) h = leaves front (begins_front refl) (come_cut front held after name h)
-  front_cut refusals.Memory (inl same) = unchanged same
-  front_cut refusals.Memory (inr h) = leaves front (begins_front refl) (come_cut front held after h.0 h.1)
+  front_cut (failures.Cause (refusals.Due r)) h = absurd h
+  front_cut (failures.Cause (refusals.Failed name)) h = leaves front (begins_front refl) (come_cut front held after name h)
+  front_cut failures.Memory (inl same) = unchanged same
+  front_cut failures.Memory (inr h) = leaves front (begins_front refl) (come_cut front held after h.0 h.1)
 
   -- behind the front
   module _ (made : Held) (made_is : all_done front (Some held) ≡ Some made) where
@@ -104,11 +105,11 @@ module _ (words : List (List ℕ)) (held : Held) (after : Option Held) where
         (come_cut (front ++ work.effects) held after name (cut_second name front work.effects (Some held) after (subst (λ o. CutShort name work.effects o after) (sym made_is) cut)))
 
     left_refused : (e : Refusal) → ComesBy e Due Reads made after → LeavesFronts words held after
-    left_refused (refusals.Due r) h = left_front h.1
-    left_refused (refusals.Failed n) (inl h) = left_front h.1
-    left_refused (refusals.Failed n) (inr h) = left_cut n h.0 h.1 h.2
-    left_refused refusals.Memory (inl h) = left_front h
-    left_refused refusals.Memory (inr h) = left_cut h.0 h.1.0 h.1.1 h.1.2
+    left_refused (failures.Cause (refusals.Due r)) h = left_front h.1
+    left_refused (failures.Cause (refusals.Failed n)) (inl h) = left_front h.1
+    left_refused (failures.Cause (refusals.Failed n)) (inr h) = left_cut n h.0 h.1 h.2
+    left_refused failures.Memory (inl h) = left_front h
+    left_refused failures.Memory (inr h) = left_cut h.0 h.1.0 h.1.1 h.1.2
 
     left_shown : (text : List ℕ) → IsShown text Due Reads made after → LeavesFronts words held after
     left_shown text (inl h) = left_done h.0 h.1 h.2
@@ -117,13 +118,13 @@ module _ (words : List (List ℕ)) (held : Held) (after : Option Held) where
     left_by : (status : ℕ) (before put : Option (List ℕ)) → EndsAs Due Reads made status after before put → LeavesFronts words held after
     left_by status before put (Done h) = left_done h.work h.is_due h.files
     left_by status before put (Refused h) = left_front h.files
-    left_by status before put (FileFault h) = left_refused (refusals.Failed h.name) h.files
+    left_by status before put (FileFault h) = left_refused (failures.Cause (refusals.Failed h.name)) h.files
     left_by status before put (OutOfMemory s h) = left_shown h.whole h.shown
     left_by status before put (SinkFault s h) = left_shown h.whole h.shown
 
   fronts_left : (status : ℕ) (before put : Option (List ℕ)) → IsOutcome words held status after before put → LeavesFronts words held after
   fronts_left status before put (inl h) = left_by h.made h.made_is status before put h.ends
-  fronts_left status before put (inr (FrontFault name cut s p)) = front_cut (refusals.Failed name) cut
+  fronts_left status before put (inr (FrontFault name cut s p)) = front_cut (failures.Cause (refusals.Failed name)) cut
   fronts_left status before put (inr (FrontCutOff e comes s count line_count p)) = front_cut e comes
 
 pub fronts_told : (words : List (List ℕ)) (status : ℕ) (told after : Option Held) (before put : Option (List ℕ))

@@ -3,6 +3,7 @@ use Rattle.std.proofs.Common.{ℕ, ◌≡◌, ◌∙◌, inl, inr, Bool, true, f
 use Rattle.std.specs.Prelude.{Option, Some, None, Result, Ok, Err, length}
 use Rattle.std.proofs.lemmas.Bool.{eqb-true}
 use Rattle.kit_base.specs.Held.{Held}
+use Rattle.kit_base.specs.declared.failure.Failure.TheVariants as failures
 use Rattle.asset_pack.specs.Words.{words_of}
 use Rattle.asset_pack.proofs.Chunks.{length-words}
 use Rattle.v32_isa.specs.Runs as machine
@@ -23,8 +24,8 @@ use Rattle.build_core.specs.Build.{IsBuilt}
 use Rattle.play_laws.specs.Played.{RefinesBy, PlayedRunsAreTheSources, PlayedRunsComeToAll, meant_at, played}
 use Rattle.kit_words.specs.Command.{RunWords}
 use Rattle.kit_tools.specs.declared.refusal.DueRefusal.TheVariants as dues
-use Rattle.kit_tools.specs.declared.refusal.Refusal.{Refusal}
-use Rattle.kit_tools.specs.declared.refusal.Refusal.TheVariants as refusals
+use Rattle.kit_tools.specs.Refusal.{Refusal}
+use Rattle.kit_tools.specs.declared.refusal.RefusalCause.TheVariants as refusals
 use Rattle.kit_tools.specs.Inputs.{◌>>=◌, bytes_due, card_due, card_in}
 use Rattle.kit_tools.specs.Running.{Settings, count_up_to, pads_due, settings_up_to}
 use Rattle.kit_core.specs.Meaning.{HasMadeAllBy, RunIsMeant}
@@ -43,7 +44,7 @@ ok_is h = cc
 
 -- a card that was read has the words of a card
 card_long : (name bytes words : List ℕ) (b : Bool) → eqb (length bytes) 1048576 ≡ b
-    → (let r : Result (List ℕ) Refusal = cond b (Ok (words_of bytes)) (Err (refusals.Due (dues.Bad 110 name None))) in r ≡ Ok words) → length words ≡ 0x40000
+    → (let r : Result (List ℕ) Refusal = cond b (Ok (words_of bytes)) (Err (failures.Cause (refusals.Due (dues.Bad 110 name None)))) in r ≡ Ok words) → length words ≡ 0x40000
 card_long name bytes words true e h = ap length (sym (ok_is h)) ∙ length-words 0x40000 bytes (eqb-true (length bytes) 1048576 e)
 card_long name bytes words false e h = absurd cc
 

@@ -3,10 +3,10 @@ use Rattle.std.proofs.Common.{ℕ, ◌≡◌, ◌⊎◌, inl, inr, List, ◌++�
 use Rattle.std.proofs.Math.Seq.{take-length}
 use Rattle.std.specs.Prelude.{Option, Result, Ok, length}
 use Rattle.kit_base.specs.Held.{Held}
+use Rattle.kit_base.specs.declared.failure.Failure.TheVariants as failures
 use Rattle.kit_tools.specs.declared.refusal.DueRefusal.{DueRefusal}
-use Rattle.kit_tools.specs.declared.refusal.Refusal.{Refusal}
-use Rattle.kit_tools.specs.declared.refusal.Refusal.TheVariants as refusals
-use Rattle.kit_tools.specs.Refusal.{status_of, line_of}
+use Rattle.kit_tools.specs.declared.refusal.RefusalCause.TheVariants as refusals
+use Rattle.kit_tools.specs.Refusal.{Refusal, status_of, line_of}
 use Rattle.kit_tools.specs.Work.{Work, ComesBy}
 use Rattle.kit_core.specs.Outcome.{putting, EndsAs, Done, Refused, FileFault, OutOfMemory, SinkFault, IsCutOff}
 use Rattle.kit_tools.specs.Carrying.{LeavesBy, shown_status, text_of}
@@ -29,10 +29,10 @@ module _ (Due : Result Work DueRefusal → Type 0) (Reads : List ℕ → Type 0)
   memory_line list = ap (λ xs. putting xs before) (sym (append-nil (take (length list) list) ∙ take-length list))
 
   shown_whole : (e : Refusal) → ComesBy e Due Reads m after → status ≡ status_of e → put ≡ putting (line_of e) before → EndsAs Due Reads m status after before put
-  shown_whole (refusals.Due r) comes s p = Refused (record { refusal = r; is_due = comes.0; status_is = s; files = comes.1; text = p })
-  shown_whole (refusals.Failed name) comes s p = FileFault (record { name = name; files = comes; status_is = s; text = p })
-  shown_whole refusals.Memory comes s p =
-      OutOfMemory s (record { whole = line_of refusals.Memory; shown = inr (refusals.Memory, comes, refl); count = length (line_of refusals.Memory); line_count = 0; text = p ∙ memory_line (line_of refusals.Memory) })
+  shown_whole (failures.Cause (refusals.Due r)) comes s p = Refused (record { refusal = r; is_due = comes.0; status_is = s; files = comes.1; text = p })
+  shown_whole (failures.Cause (refusals.Failed name)) comes s p = FileFault (record { name = name; files = comes; status_is = s; text = p })
+  shown_whole failures.Memory comes s p =
+      OutOfMemory s (record { whole = line_of failures.Memory; shown = inr (failures.Memory, comes, refl); count = length (line_of failures.Memory); line_count = 0; text = p ∙ memory_line (line_of failures.Memory) })
 
   pub outcome_refused : (e : Refusal) → ComesBy e Due Reads m after → Shows (status_of e) (line_of e) status before put → EndsAs Due Reads m status after before put
   outcome_refused e comes (inl (s, p)) = shown_whole e comes s p

@@ -6,7 +6,7 @@ use Rattle.kit_base.specs.Counts.{Counts}
 use Rattle.kit_words.specs.declared.conversion.Conversion.{Conversion}
 use Rattle.kit_words.specs.Command.{Command, RunWords, WatchWords, Build, Convert, Trace, Run, Play, Watch, Bounds, Gen, command_of}
 use Rattle.kit_words.specs.Number.{number_of}
-use Rattle.kit_tools.specs.declared.refusal.Refusal.{Refusal}
+use Rattle.kit_tools.specs.Refusal.{Refusal}
 use Rattle.kit_tools.specs.declared.shown.Shown.{Shown}
 use Rattle.kit_tools.specs.Causes.{HasCauses, HasCausesOr}
 use Rattle.kit_tools.specs.Converting.{ConvertsLong}

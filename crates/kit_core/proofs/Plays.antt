@@ -6,12 +6,12 @@ use Rattle.kit_base.specs.Effects.{all_done, written_file}
 use Rattle.kit_base.specs.Outside.{due}
 use Rattle.kit_base.specs.declared.outside.FileErr.{FileErr}
 use Rattle.kit_base.proofs.Cuts.{all_done-append}
+use Rattle.kit_base.specs.declared.failure.Failure.TheVariants as failures
 use Rattle.build_core.specs.declared.building.Built.{Built}
 use Rattle.build_core.specs.Build.{IsBuilt}
 use Rattle.project_text.specs.MapText.{map_text}
 use Rattle.run_core.specs.Outputs.{run_outputs}
-use Rattle.kit_tools.specs.declared.refusal.Refusal.{Refusal}
-use Rattle.kit_tools.specs.declared.refusal.Refusal.TheVariants as refusals
+use Rattle.kit_tools.specs.Refusal.{Refusal}
 use Rattle.kit_tools.specs.declared.running.Loaded.{Loaded}
 use Rattle.kit_tools.specs.declared.running.LoadedSettings.{LoadedSettings}
 use Rattle.kit_tools.specs.declared.shown.Shown.{Shown}
@@ -68,10 +68,10 @@ module _ (map_name : List ℕ) (words : RunWords) (b : Built) (game : Game) wher
   whole = play_work map_name words b game
 
   -- memory may run out before the first file is begun
-  pub play_not_begun : (r : Result Shown Refusal) (held : Option Held) → r ≡ Err refusals.Memory → IsCarried whole r held held
+  pub play_not_begun : (r : Result Shown Refusal) (held : Option Held) → r ≡ Err failures.Memory → IsCarried whole r held held
   play_not_begun r held e = subst (λ x. IsCarried whole x held held) (sym e)
-      (in_first refusals.Memory (outputs_of words.cart map_name b) (run_outputs (names_in words) game.setup game.count) held held
-      (in_first refusals.Memory (written_file words.cart b.cart) (written_file map_name (map_text b.map)) held held (not_begun words.cart b.cart held)))
+      (in_first failures.Memory (outputs_of words.cart map_name b) (run_outputs (names_in words) game.setup game.count) held held
+      (in_first failures.Memory (written_file words.cart b.cart) (written_file map_name (map_text b.map)) held held (not_begun words.cart b.cart held)))
 
   -- what was built may be cut short
   pub play_built_cut : (e : Refusal) (before after : Option Held) → IsCut e (outputs_of words.cart map_name b) before after → IsCarried whole (Err e) before after

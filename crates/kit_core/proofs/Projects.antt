@@ -5,9 +5,10 @@ use Rattle.kit_base.specs.Held.{Held}
 use Rattle.kit_base.specs.Effects.{all_done}
 use Rattle.kit_base.specs.Outside.{due}
 use Rattle.kit_base.specs.declared.outside.FileErr.{FileErr}
+use Rattle.kit_base.specs.declared.failure.Failure.TheVariants as failures
 use Rattle.kit_tools.specs.declared.refusal.DueRefusal.{DueRefusal}
-use Rattle.kit_tools.specs.declared.refusal.Refusal.{Refusal}
-use Rattle.kit_tools.specs.declared.refusal.Refusal.TheVariants as refusals
+use Rattle.kit_tools.specs.Refusal.{Refusal}
+use Rattle.kit_tools.specs.declared.refusal.RefusalCause.TheVariants as refusals
 use Rattle.kit_tools.specs.declared.shown.Shown.{Shown}
 use Rattle.kit_tools.specs.Inputs.{or_refused, unread}
 use Rattle.kit_tools.specs.Work.{Work, ComesBy}
@@ -19,9 +20,9 @@ use Rattle.kit_core.specs.Due.{project_reads}
 -- one of the refusals that are due came, or a call failed at a file that is read, and nothing was changed
 pub refused : (Due : Result Work DueRefusal → Type 0) (Reads : List ℕ → Type 0) (e : Refusal) (m : Held) (after : Option Held)
     → IsOneUnlessStopped (λ r. Due (Err r)) e → FailsIn Reads e → after ≡ Some m → ComesBy e Due Reads m after
-refused Due Reads (refusals.Due r) m after h reads same = (h, same)
-refused Due Reads (refusals.Failed n) m after h reads same = inl (reads, same)
-refused Due Reads refusals.Memory m after h reads same = inl same
+refused Due Reads (failures.Cause (refusals.Due r)) m after h reads same = (h, same)
+refused Due Reads (failures.Cause (refusals.Failed n)) m after h reads same = inl (reads, same)
+refused Due Reads failures.Memory m after h reads same = inl same
 
 the_only : (x n : List ℕ) → Contains (x ∷ []) n → n ≡ x
 the_only x n (zero, within, is) = sym is
@@ -40,9 +41,9 @@ module _ (project : List ℕ) (Due : Held → Result (List ℕ) FileErr → Resu
 
   -- the project was not read
   abbrev pub Refuses : Type 0
-  Refuses = (m : Held) (f : FileErr) (r : DueRefusal) → unread project f ≡ refusals.Due r → Due m (Err f) (Err r)
+  Refuses = (m : Held) (f : FileErr) (r : DueRefusal) → unread project f ≡ failures.Cause (refusals.Due r) → Due m (Err f) (Err r)
 
-  unread_due : Refuses → (m : Held) (d : Result (List ℕ) FileErr) (r : DueRefusal) → or_refused (unread project) d ≡ Err (refusals.Due r) → Due m d (Err r)
+  unread_due : Refuses → (m : Held) (d : Result (List ℕ) FileErr) (r : DueRefusal) → or_refused (unread project) d ≡ Err (failures.Cause (refusals.Due r)) → Due m d (Err r)
   unread_due refuses m (Ok text) r h = absurd cc
   unread_due refuses m (Err f) r h = refuses m f r (cc h)
 
@@ -51,9 +52,9 @@ module _ (project : List ℕ) (Due : Held → Result (List ℕ) FileErr → Resu
   own_read m (Err f) name is = is
 
   unread_one : {X : Type 0} (view : X → List ℕ) → Refuses → (m : Held) (e : Refusal) → GivesBy view (Err e) (or_refused (unread project) (due m project)) → IsOneUnlessStopped (λ r. DueOf m (Err r)) e
-  unread_one view refuses m (refusals.Due r) h = unread_due refuses m (due m project) r h
-  unread_one view refuses m (refusals.Failed n) h = tt
-  unread_one view refuses m refusals.Memory h = tt
+  unread_one view refuses m (failures.Cause (refusals.Due r)) h = unread_due refuses m (due m project) r h
+  unread_one view refuses m (failures.Cause (refusals.Failed n)) h = tt
+  unread_one view refuses m failures.Memory h = tt
 
   pub left_unread : {X : Type 0} (view : X → List ℕ) → Refuses → (e : Refusal) (h0 h1 : Option Held)
       → IfSome h0 (λ m. GivesBy view (Err e) (or_refused (unread project) (due m project))) → FailsAt (project ∷ []) e → h1 ≡ h0 → Left h0 h1 (Err e)

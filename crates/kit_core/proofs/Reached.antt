@@ -5,7 +5,7 @@ use Rattle.kit_base.specs.Held.{Held}
 use Rattle.build_core.specs.declared.error.BuildErr.{BuildErr}
 use Rattle.build_core.specs.declared.error.BuildErr.TheVariants as errors
 use Rattle.build_core.specs.Reached.{FailsAt}
-use Rattle.kit_tools.specs.declared.refusal.Refusal.{Refusal}
+use Rattle.kit_tools.specs.Refusal.{Refusal}
 use Rattle.kit_tools.specs.Carrying.{FailsIn}
 use Rattle.kit_core.specs.Due.{unbuilt}
 

@@ -3,10 +3,11 @@ use Rattle.std.proofs.Common.{ℕ, ◌≡◌, ◌≤◌, Bool, true, false, List
 use Rattle.std.specs.Prelude.{Option, Some, None, Ok, Err, IfSome, nat_lt, if◌then◌else◌}
 use Rattle.kit_base.specs.Held.{Held}
 use Rattle.kit_base.specs.Effects.{all_done}
+use Rattle.kit_base.specs.declared.failure.Failure.TheVariants as failures
 use Rattle.v32_isa.specs.Runs.{machine_runs}
 use Rattle.trace_core.specs.Texts.{run_text}
 use Rattle.kit_tools.specs.declared.refusal.DueRefusal.TheVariants as dues
-use Rattle.kit_tools.specs.declared.refusal.Refusal.TheVariants as refusals
+use Rattle.kit_tools.specs.declared.refusal.RefusalCause.TheVariants as refusals
 use Rattle.kit_tools.specs.Inputs.{cart_due, answers_due, card_due}
 use Rattle.kit_tools.specs.Tracing.{steps_due, traced_due, IsTraced, TraceStands, trace_due}
 use Rattle.kit_words.specs.Number.{number_of}
@@ -18,7 +19,7 @@ use Rattle.kit_core.specs.Generating.{front_of}
 use Rattle.kit_core.proofs.Behind.{plain_ends}
 use Rattle.kit_core.proofs.Headlines.{bind_ok, done_at_zero}
 
-within_by : (n : ℕ) (over : Bool) (word : List ℕ) (count : ℕ) → nat_lt 10000000 n ≡ over → (if over then Err (refusals.Due (dues.OutOfRange word)) else Ok n) ≡ Ok count → (n ≤ 10000000) × (count ≡ n)
+within_by : (n : ℕ) (over : Bool) (word : List ℕ) (count : ℕ) → nat_lt 10000000 n ≡ over → (if over then Err (failures.Cause (refusals.Due (dues.OutOfRange word))) else Ok n) ≡ Ok count → (n ≤ 10000000) × (count ≡ n)
 within_by n true word count e h = cc
 within_by n false word count e h = (grind arith, cc h)
 

@@ -5,7 +5,7 @@ use Rattle.kit_base.specs.Counts.{Counts}
 use Rattle.build_core.specs.declared.error.BuildErr.{BuildErr}
 use Rattle.build_core.specs.declared.error.BuildErr.TheVariants as errors
 use Rattle.build_core.specs.Causes as builds
-use Rattle.kit_tools.specs.declared.refusal.Refusal.{Refusal}
+use Rattle.kit_tools.specs.Refusal.{Refusal}
 use Rattle.kit_tools.specs.Causes.{HasCause, HasCausesOr}
 use Rattle.kit_core.specs.Due.{unbuilt}
 

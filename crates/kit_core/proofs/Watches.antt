@@ -5,6 +5,7 @@ use Rattle.std.specs.Prelude.{Option, Some, None, Result, Ok, Err, IfOk, IfSome,
 use Rattle.kit_base.specs.Held.{Held, appended, emptied}
 use Rattle.kit_base.specs.Effects.{all_done, written_file}
 use Rattle.kit_base.specs.declared.name.Memory.{Memory}
+use Rattle.kit_base.specs.declared.failure.Failure.TheVariants as failures
 use Rattle.cart_format.specs.Cartridge.{Cartridge}
 use Rattle.cart_format.specs.Reading.{cart_of}
 use Rattle.c_check.specs.View.{program}
@@ -17,8 +18,7 @@ use Rattle.project_text.specs.MapText.{map_text}
 use Rattle.build_core.specs.declared.building.Built.{Built}
 use Rattle.build_core.specs.Build.{IsBuilt}
 use Rattle.build_core.specs.BuiltFrom.{IsBuiltFrom}
-use Rattle.kit_tools.specs.declared.refusal.Refusal.{Refusal}
-use Rattle.kit_tools.specs.declared.refusal.Refusal.TheVariants as refusals
+use Rattle.kit_tools.specs.Refusal.{Refusal}
 use Rattle.kit_tools.specs.declared.running.LoadedSettings.{LoadedSettings}
 use Rattle.kit_tools.specs.declared.shown.Shown.{Shown}
 use Rattle.kit_tools.specs.declared.verdict.Verdict.{Verdict}
@@ -38,21 +38,21 @@ use Rattle.kit_core.proofs.Projects.{Left, WasRead, left_cut, left_done}
 -- ---- the outputs
 
 -- memory may run out before they are begun
-outputs_not_begun : (cart map_name : List ℕ) (b : Built) (held : Option Held) → IsCut refusals.Memory (outputs_of cart map_name b) held held
-outputs_not_begun cart map_name b held = in_first refusals.Memory (written_file cart b.cart) (written_file map_name (map_text b.map)) held held (not_begun cart b.cart held)
+outputs_not_begun : (cart map_name : List ℕ) (b : Built) (held : Option Held) → IsCut failures.Memory (outputs_of cart map_name b) held held
+outputs_not_begun cart map_name b held = in_first failures.Memory (written_file cart b.cart) (written_file map_name (map_text b.map)) held held (not_begun cart b.cart held)
 
 -- or once a file is written: its last bytes were appended whole
-written_then : (name bytes : List ℕ) (before : Option Held) → IsCut refusals.Memory (written_file name bytes) before (all_done (written_file name bytes) before)
+written_then : (name bytes : List ℕ) (before : Option Held) → IsCut failures.Memory (written_file name bytes) before (all_done (written_file name bytes) before)
 written_then name bytes before =
     (name, inr (inl (refl, (length bytes, ap (λ (piece : List ℕ). option_map (appended name piece) (option_map (emptied name) before)) (sym (take-length bytes))))))
 
-outputs_then : (cart map_name : List ℕ) (b : Built) (before : Option Held) → IsCut refusals.Memory (outputs_of cart map_name b) before (all_done (outputs_of cart map_name b) before)
+outputs_then : (cart map_name : List ℕ) (b : Built) (before : Option Held) → IsCut failures.Memory (outputs_of cart map_name b) before (all_done (outputs_of cart map_name b) before)
 outputs_then cart map_name b before =
-    in_second refusals.Memory (written_file cart b.cart) (written_file map_name (map_text b.map)) before (all_done (written_file cart b.cart) before) (all_done (outputs_of cart map_name b) before)
+    in_second failures.Memory (written_file cart b.cart) (written_file map_name (map_text b.map)) before (all_done (written_file cart b.cart) before) (all_done (outputs_of cart map_name b) before)
     refl (written_then map_name (map_text b.map) (all_done (written_file cart b.cart) before))
 
 module _ (words : WatchWords) (b : Built) (verdict : Verdict) where
-  pub watch_not_begun : (r : Result Shown Refusal) (held : Option Held) → r ≡ Err refusals.Memory → IsCarried (watch_work words b verdict) r held held
+  pub watch_not_begun : (r : Result Shown Refusal) (held : Option Held) → r ≡ Err failures.Memory → IsCarried (watch_work words b verdict) r held held
   watch_not_begun r held e = subst (λ x. IsCarried (watch_work words b verdict) x held held) (sym e) (outputs_not_begun words.cart words.map_name b held)
 
   pub watch_built_cut : (e : Refusal) (before after : Option Held) → IsCut e (outputs_of words.cart words.map_name b) before after → IsCarried (watch_work words b verdict) (Err e) before after
@@ -61,7 +61,7 @@ module _ (words : WatchWords) (b : Built) (verdict : Verdict) where
   judged_by : (r : Result Verdict Memory) (before after : Option Held) → after ≡ all_done (outputs_of words.cart words.map_name b) before → IfOk r (λ v. v ≡ verdict)
       → IsCarried (watch_work words b verdict) (shown_by r) before after
   judged_by (Ok v) before after is e = record { outputs = is; text = ap watch_line e; status = refl }
-  judged_by (Err e) before after is h = subst (λ x. IsCut refusals.Memory (outputs_of words.cart words.map_name b) before x) (sym is) (outputs_then words.cart words.map_name b before)
+  judged_by (Err e) before after is h = subst (λ x. IsCut failures.Memory (outputs_of words.cart words.map_name b) before x) (sym is) (outputs_then words.cart words.map_name b before)
 
   -- what was built is written, and the verdict is told
   pub watch_judged : (r : Result Verdict Memory) (s : Result Shown Refusal) (before after : Option Held) → s ≡ shown_by r → after ≡ all_done (outputs_of words.cart words.map_name b) before

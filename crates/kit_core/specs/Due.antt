@@ -4,6 +4,7 @@ use Rattle.kit_base.specs.Held.{Held}
 use Rattle.kit_base.specs.Effects.{Effect, written_file}
 use Rattle.kit_base.specs.Outside.{due}
 use Rattle.kit_base.specs.declared.outside.FileErr.{FileErr}
+use Rattle.kit_base.specs.declared.failure.Failure.TheVariants as failures
 use Rattle.cart_format.specs.Cartridge.{Cartridge}
 use Rattle.cart_format.specs.Reading.{cart_of}
 use Rattle.build_core.specs.declared.error.BuildErr.{BuildErr}
@@ -19,8 +20,8 @@ use Rattle.project_text.specs.MapText.{map_text}
 use Rattle.project_text.specs.declared.map.Map.{Map}
 use Rattle.kit_tools.specs.declared.refusal.DueRefusal.{DueRefusal}
 use Rattle.kit_tools.specs.declared.refusal.DueRefusal.TheVariants as dues
-use Rattle.kit_tools.specs.declared.refusal.Refusal.{Refusal}
-use Rattle.kit_tools.specs.declared.refusal.Refusal.TheVariants as refusals
+use Rattle.kit_tools.specs.Refusal.{Refusal}
+use Rattle.kit_tools.specs.declared.refusal.RefusalCause.TheVariants as refusals
 use Rattle.kit_words.specs.Command.{Command, RunWords, WatchWords, Build, Convert, Trace, Run, Play, Watch, Bounds, Check, Gen, command_of}
 use Rattle.kit_tools.specs.Inputs.{unread}
 use Rattle.kit_tools.specs.Work.{Work, accepted, as_due}
@@ -41,13 +42,13 @@ use Rattle.kit_core.specs.Watching.{verdict_at, watched_in}
 -- The refusal of a build. A fault in a line is one of the project's text, which goes by the name
 -- that the words give it.
 abbrev pub unbuilt : List ℕ → BuildErr → Refusal
-unbuilt project (build_errors.Source code file line) = refusals.Due (dues.Source code file line)
-unbuilt project (build_errors.Missing name) = refusals.Due (dues.Missing name)
-unbuilt project (build_errors.Failed name) = refusals.Failed name
-unbuilt project (build_errors.Bad code name (Some line)) = refusals.Due (dues.Bad code project (Some line))
-unbuilt project (build_errors.Bad code name None) = refusals.Due (dues.Bad code name None)
-unbuilt project (build_errors.Limit name) = refusals.Due (dues.Limit name)
-unbuilt project build_errors.Memory = refusals.Memory
+unbuilt project (build_errors.Source code file line) = failures.Cause (refusals.Due (dues.Source code file line))
+unbuilt project (build_errors.Missing name) = failures.Cause (refusals.Due (dues.Missing name))
+unbuilt project (build_errors.Failed name) = failures.Cause (refusals.Failed name)
+unbuilt project (build_errors.Bad code name (Some line)) = failures.Cause (refusals.Due (dues.Bad code project (Some line)))
+unbuilt project (build_errors.Bad code name None) = failures.Cause (refusals.Due (dues.Bad code name None))
+unbuilt project (build_errors.Limit name) = failures.Cause (refusals.Due (dues.Limit name))
+unbuilt project build_errors.Memory = failures.Memory
 
 -- the cartridge and then the map, each created and then appended
 abbrev pub outputs_of : List ℕ → List ℕ → Built → List Effect
@@ -59,7 +60,7 @@ built_work cart map_name built = record { effects = outputs_of cart map_name bui
 -- what the build of a project's text is due: its outputs, or why there are none
 abbrev pub text_build_due : (project text cart map_name : List ℕ) → Held → Result Work DueRefusal → Type 0
 text_build_due project text cart map_name held (Ok work) = (b : Built) × IsBuilt held text b × (built_work cart map_name b ≡ work)
-text_build_due project text cart map_name held (Err refusal) = (e : BuildErr) × IsUnbuilt held text e × (unbuilt project e ≡ refusals.Due refusal)
+text_build_due project text cart map_name held (Err refusal) = (e : BuildErr) × IsUnbuilt held text e × (unbuilt project e ≡ failures.Cause (refusals.Due refusal))
 
 abbrev pub read_build_due : (project cart map_name : List ℕ) → Held → Result (List ℕ) FileErr → Result Work DueRefusal → Type 0
 read_build_due project cart map_name held (Ok text) d = text_build_due project text cart map_name held d
@@ -72,8 +73,8 @@ build_due project cart map_name held d = read_build_due project cart map_name he
 
 -- the input of a build is refused: its project's file, the project's text, its source, a texture or a sound
 abbrev pub read_build_refused : (project : List ℕ) → Held → Result (List ℕ) FileErr → DueRefusal → Type 0
-read_build_refused project held (Ok text) refusal = (e : BuildErr) × HasNoParts held text e × (unbuilt project e ≡ refusals.Due refusal)
-read_build_refused project held (Err e) refusal = unread project e ≡ refusals.Due refusal
+read_build_refused project held (Ok text) refusal = (e : BuildErr) × HasNoParts held text e × (unbuilt project e ≡ failures.Cause (refusals.Due refusal))
+read_build_refused project held (Err e) refusal = unread project e ≡ failures.Cause (refusals.Due refusal)
 
 -- the outputs of what was built, then those of its run
 abbrev pub play_effects : (map_name : List ℕ) → RunWords → Built → Game → List Effect
@@ -95,8 +96,8 @@ pub record IsPlay (text map_name : List ℕ) (words : RunWords) (held : Held) (w
 
 -- Nothing is built of the project; or the pads file, the card or the number of frames is refused after a build.
 pub data IsUnset (project text : List ℕ) (due_settings : Held → Result Settings Refusal) (held : Held) (refusal : DueRefusal) : Type 0 where
-  not_built : (e : BuildErr) → IsUnbuilt held text e → unbuilt project e ≡ refusals.Due refusal → IsUnset project text due_settings held refusal
-  not_set : (b : Built) → IsBuilt held text b → due_settings held ≡ Err (refusals.Due refusal) → IsUnset project text due_settings held refusal
+  not_built : (e : BuildErr) → IsUnbuilt held text e → unbuilt project e ≡ failures.Cause (refusals.Due refusal) → IsUnset project text due_settings held refusal
+  not_set : (b : Built) → IsBuilt held text b → due_settings held ≡ Err (failures.Cause (refusals.Due refusal)) → IsUnset project text due_settings held refusal
 
 abbrev pub IsUnplayed : (project text : List ℕ) → RunWords → Held → DueRefusal → Type 0
 IsUnplayed project text words held refusal = IsUnset project text (settings_due words) held refusal
@@ -115,7 +116,7 @@ play_due project map_name words held d = read_play_due project map_name words he
 
 -- the input of a play is refused: that of its build, the pads file, the card or the number of frames
 abbrev pub play_refused : (project : List ℕ) → RunWords → Held → DueRefusal → Type 0
-play_refused project words held refusal = read_build_refused project held (due held project) refusal ⊎ (settings_due words held ≡ Err (refusals.Due refusal))
+play_refused project words held refusal = read_build_refused project held (due held project) refusal ⊎ (settings_due words held ≡ Err (failures.Cause (refusals.Due refusal)))
 
 -- the outputs of what was built, and the line of a verdict
 abbrev pub watch_work : WatchWords → Built → Verdict → Work
@@ -148,7 +149,7 @@ watch_due words held d = read_watch_due words held (due held words.project) d
 -- the input of a watch is refused: that of its build, the pads file, the card or the number of frames
 abbrev pub watch_refused : WatchWords → Held → DueRefusal → Type 0
 watch_refused words held refusal =
-    read_build_refused words.project held (due held words.project) refusal ⊎ (watch_settings_due words held ≡ Err (refusals.Due refusal))
+    read_build_refused words.project held (due held words.project) refusal ⊎ (watch_settings_due words held ≡ Err (failures.Cause (refusals.Due refusal)))
 
 -- the names of a map's functions, in its order
 abbrev pub function_names : Map → List (List ℕ)
@@ -172,7 +173,7 @@ pub record IsBounds (text cart map_name text_name : List ℕ) (held : Held) (wor
 
 abbrev pub text_bounds_due : (project text cart map_name text_name : List ℕ) → Held → Result Work DueRefusal → Type 0
 text_bounds_due project text cart map_name text_name held (Ok work) = IsBounds text cart map_name text_name held work
-text_bounds_due project text cart map_name text_name held (Err refusal) = (e : BuildErr) × IsUnbuilt held text e × (unbuilt project e ≡ refusals.Due refusal)
+text_bounds_due project text cart map_name text_name held (Err refusal) = (e : BuildErr) × IsUnbuilt held text e × (unbuilt project e ≡ failures.Cause (refusals.Due refusal))
 
 abbrev pub read_bounds_due : (project cart map_name text_name : List ℕ) → Held → Result (List ℕ) FileErr → Result Work DueRefusal → Type 0
 read_bounds_due project cart map_name text_name held (Ok text) d = text_bounds_due project text cart map_name text_name held d
@@ -185,7 +186,7 @@ bounds_due project cart map_name text_name held d = read_bounds_due project cart
 -- what the check of a project's text is due: `ok` where its source has a program, else why it has none
 abbrev pub text_check_due : (project text : List ℕ) → Held → Result Work DueRefusal → Type 0
 text_check_due project text held (Ok work) = ((p : ProgramT) × IsAccepted held text p) × (accepted ≡ work)
-text_check_due project text held (Err refusal) = (e : BuildErr) × IsRejected held text e × (unbuilt project e ≡ refusals.Due refusal)
+text_check_due project text held (Err refusal) = (e : BuildErr) × IsRejected held text e × (unbuilt project e ≡ failures.Cause (refusals.Due refusal))
 
 abbrev pub read_check_due : (project : List ℕ) → Held → Result (List ℕ) FileErr → Result Work DueRefusal → Type 0
 read_check_due project held (Ok text) d = text_check_due project text held d
@@ -216,7 +217,7 @@ pub record IsGenerated (functions : ℕ) (cart map_name : List ℕ) (held : Held
 abbrev pub functions_gen_due : (functions : ℕ) → (project cart map_name : List ℕ) → Held → Result Work DueRefusal → Type 0
 functions_gen_due functions project cart map_name held (Ok work) = IsGenerated functions cart map_name held work
 functions_gen_due functions project cart map_name held (Err refusal) = (e : BuildErr) × IsUnbuilt held project_text e
-    × (unbuilt project e ≡ refusals.Due refusal)
+    × (unbuilt project e ≡ failures.Cause (refusals.Due refusal))
 
 abbrev pub number_gen_due : Result ℕ DueRefusal → (project cart map_name : List ℕ) → Held → Result Work DueRefusal → Type 0
 number_gen_due (Ok functions) project cart map_name held d = functions_gen_due functions project cart map_name held d

@@ -2,10 +2,10 @@
 use Rattle.std.specs.Prelude.{ℕ, ◌≡◌, ◌⊎◌, List, ◌++◌, take, Option, Some, option_map, Result, Ok, Err}
 use Rattle.kit_base.specs.Held.{Held}
 use Rattle.kit_base.specs.Effects.{Effect, all_done, CutShort}
+use Rattle.kit_base.specs.declared.failure.Failure.TheVariants as failures
 use Rattle.kit_tools.specs.declared.refusal.DueRefusal.{DueRefusal}
-use Rattle.kit_tools.specs.declared.refusal.Refusal.{Refusal}
-use Rattle.kit_tools.specs.declared.refusal.Refusal.TheVariants as refusals
-use Rattle.kit_tools.specs.Refusal.{due_line, due_status, line_of}
+use Rattle.kit_tools.specs.declared.refusal.RefusalCause.TheVariants as refusals
+use Rattle.kit_tools.specs.Refusal.{Refusal, due_line, due_status, line_of}
 use Rattle.kit_words.specs.Command.{Command, command_of}
 use Rattle.kit_tools.specs.Work.{Work, ComesBy}
 use Rattle.kit_core.specs.Due.{command_due, command_reads, form_due}
@@ -36,9 +36,9 @@ pub record IsRefused (Due : Result Work DueRefusal → Type 0) (held : Held) (st
 pub record HasFileFault (Due : Result Work DueRefusal → Type 0) (Reads : List ℕ
     → Type 0) (held : Held) (status : ℕ) (after : Option Held) (before put : Option (List ℕ)) : Type 0 where
   pub name : List ℕ
-  pub files : ComesBy (refusals.Failed name) Due Reads held after
+  pub files : ComesBy (failures.Cause (refusals.Failed name)) Due Reads held after
   pub status_is : status ≡ 5
-  pub text : put ≡ putting (line_of (refusals.Failed name)) before
+  pub text : put ≡ putting (line_of (failures.Cause (refusals.Failed name))) before
 
 -- what is put where these files are left: the text of the work that was done, or the line of the
 -- refusal that came
@@ -55,7 +55,7 @@ pub record IsCutOff (Due : Result Work DueRefusal → Type 0) (Reads : List ℕ
   pub shown : IsShown whole Due Reads held after
   pub count : ℕ
   pub line_count : ℕ
-  pub text : put ≡ putting (take count whole ++ take line_count (line_of refusals.Memory)) before
+  pub text : put ≡ putting (take count whole ++ take line_count (line_of failures.Memory)) before
 
 pub data EndsAs (Due : Result Work DueRefusal → Type 0) (Reads : List ℕ
     → Type 0) (held : Held) (status : ℕ) (after : Option Held) (before put : Option (List ℕ)) : Type 0 where
@@ -67,16 +67,16 @@ pub data EndsAs (Due : Result Work DueRefusal → Type 0) (Reads : List ℕ
 
 -- A refusal that comes before a command's front or inside it: a call on one of the front's files failed, or memory ran out.
 abbrev pub ComesInFront : Refusal → List Effect → Held → Option Held → Type 0
-ComesInFront (refusals.Due refusal) front held after = ⊥
-ComesInFront (refusals.Failed name) front held after = CutShort name front (Some held) after
-ComesInFront refusals.Memory front held after = (after ≡ Some held) ⊎ ((name : List ℕ) × CutShort name front (Some held) after)
+ComesInFront (failures.Cause (refusals.Due refusal)) front held after = ⊥
+ComesInFront (failures.Cause (refusals.Failed name)) front held after = CutShort name front (Some held) after
+ComesInFront failures.Memory front held after = (after ≡ Some held) ⊎ ((name : List ℕ) × CutShort name front (Some held) after)
 
 -- Then its line is put at status 5, or a front of that line at 8 or 9, and then a front of the line of 8.
 pub data StopsInFront (front : List Effect) (held : Held) (status : ℕ) (after : Option Held) (before put : Option (List ℕ)) : Type 0 where
-  FrontFault : (name : List ℕ) → CutShort name front (Some held) after → status ≡ 5 → put ≡ putting (line_of (refusals.Failed name)) before
+  FrontFault : (name : List ℕ) → CutShort name front (Some held) after → status ≡ 5 → put ≡ putting (line_of (failures.Cause (refusals.Failed name))) before
       → StopsInFront front held status after before put
   FrontCutOff : (refusal : Refusal) → ComesInFront refusal front held after → (status ≡ 8) ⊎ (status ≡ 9) → (count line_count : ℕ)
-      → put ≡ putting (take count (line_of refusal) ++ take line_count (line_of refusals.Memory)) before → StopsInFront front held status after before put
+      → put ≡ putting (take count (line_of refusal) ++ take line_count (line_of failures.Memory)) before → StopsInFront front held status after before put
 
 -- The front is done, and the command ended among the files that are held then.
 pub record EndsBehind (front : List Effect) (Due : Held → Result Work DueRefusal → Type 0) (Reads : Held → List ℕ

@@ -27,7 +27,7 @@ use build_core::Built;
 use cart_format::Cart;
 use gen_source::{project_text, source_text, summary_front};
 use kit_base::{Files, Name};
-use kit_tools::{DueRefusal, Refusal, Shown, write_named};
+use kit_tools::{DueRefusal, Refusal, RefusalCause, Shown, write_named};
 use kit_words::{SOURCE_NAME, number_of};
 use std::alloc::Global;
 
@@ -44,7 +44,9 @@ fn functions_of(alloc: Global, word: &str) -> Result<u32, Refusal>
 {
     let count = number_of(word.as_bytes());
     if count < 1 || count > FUNCTION_LIMIT {
-        return Err(Refusal::Due(DueRefusal::OutOfRange(Name::new(alloc, word)?)));
+        return Err(Refusal::Cause(RefusalCause::Due(DueRefusal::OutOfRange(Name::new(
+            alloc, word,
+        )?))));
     }
     Ok(count)
 }

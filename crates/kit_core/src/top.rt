@@ -37,8 +37,8 @@ use cycle_bound::calls_stay_within_bounds;
 use gen_source::summary_end;
 use kit_base::{Files, Sink, SinkErr};
 use kit_tools::{
-    DueRefusal, Refusal, Shown, Verdict, convert_command, line_of, put_both, put_verdict,
-    run_command, status_of, trace_command,
+    DueRefusal, Refusal, RefusalCause, Shown, Verdict, convert_command, line_of, put_both,
+    put_verdict, run_command, status_of, trace_command,
 };
 use kit_words::{Command, command_of};
 use play_laws::{kept_runs_are_the_sources, played_runs_are_the_sources};
@@ -183,7 +183,7 @@ fn carry_out<F: Files>(alloc: Global, words: &[String], files: &mut F) -> Result
         (counts F.faults F.misses F.overs files.new) }
 {
     match command_of(alloc, words)? {
-        None => Err(Refusal::Due(DueRefusal::Usage)),
+        None => Err(Refusal::Cause(RefusalCause::Due(DueRefusal::Usage))),
         Some(Command::Build { project, cart, map }) => {
             build_command(alloc, files, project, cart, map)
         }

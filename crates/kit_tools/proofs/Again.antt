@@ -19,7 +19,7 @@ use Rattle.assembler.specs.Faults.{fault_of}
 use Rattle.assembler.specs.Labels.{address_in}
 use Rattle.assembler.specs.Placed.{labels_of, Placed}
 use Rattle.assembler.proofs.ReadingAgain.{reads_again, assembles_again}
-use Rattle.kit_tools.specs.declared.refusal.Refusal.{Refusal}
+use Rattle.kit_tools.specs.Refusal.{Refusal}
 use Rattle.kit_tools.specs.Inputs.{◌>>=◌, or_refused, bytes_due}
 use Rattle.kit_tools.specs.Converting.{no_words, text_words_due, assembled_due, disassembled_due}
 

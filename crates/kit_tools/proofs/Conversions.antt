@@ -4,7 +4,7 @@ use Rattle.std.specs.Prelude.{Option, Some, None, Result, Ok, IfSome, Contains}
 use Rattle.kit_base.specs.Held.{Held}
 use Rattle.kit_base.specs.Effects.{all_done, written_file}
 use Rattle.kit_base.specs.Counts.{Counts}
-use Rattle.kit_tools.specs.declared.refusal.Refusal.{Refusal}
+use Rattle.kit_tools.specs.Refusal.{Refusal}
 use Rattle.kit_tools.specs.Inputs.{◌>>=◌}
 use Rattle.kit_tools.specs.Tracing.{IsReadToTrace, traced_due, trace_due}
 use Rattle.kit_words.specs.declared.conversion.Conversion.{Conversion}

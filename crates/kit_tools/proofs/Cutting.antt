@@ -5,29 +5,30 @@ use Rattle.std.proofs.lemmas.Result.{IfErr-weaker}
 use Rattle.kit_base.specs.Held.{Held}
 use Rattle.kit_base.specs.Effects.{Effect, all_done, written_file}
 use Rattle.kit_base.proofs.Cuts.{cut_first, cut_second}
-use Rattle.kit_tools.specs.declared.refusal.Refusal.{Refusal}
-use Rattle.kit_tools.specs.declared.refusal.Refusal.TheVariants as refusals
+use Rattle.kit_base.specs.declared.failure.Failure.TheVariants as failures
+use Rattle.kit_tools.specs.Refusal.{Refusal}
+use Rattle.kit_tools.specs.declared.refusal.RefusalCause.TheVariants as refusals
 use Rattle.kit_tools.specs.Carrying.{IsCut}
 
 pub in_first : (e : Refusal) (es fs : List Effect) (before after : Option Held) → IsCut e es before after → IsCut e (es ++ fs) before after
-in_first (refusals.Due r) es fs before after h = absurd h
-in_first (refusals.Failed name) es fs before after h = cut_first name es fs before after h
-in_first refusals.Memory es fs before after h = (h.0, cut_first h.0 es fs before after h.1)
+in_first (failures.Cause (refusals.Due r)) es fs before after h = absurd h
+in_first (failures.Cause (refusals.Failed name)) es fs before after h = cut_first name es fs before after h
+in_first failures.Memory es fs before after h = (h.0, cut_first h.0 es fs before after h.1)
 
 pub in_second : (e : Refusal) (es fs : List Effect) (before middle after : Option Held) → middle ≡ all_done es before → IsCut e fs middle after → IsCut e (es ++ fs) before after
-in_second (refusals.Due r) es fs before middle after m h = absurd h
-in_second (refusals.Failed name) es fs before middle after m h = cut_second name es fs before after (rw (← m) h)
-in_second refusals.Memory es fs before middle after m h = (h.0, cut_second h.0 es fs before after (rw (← m) h.1))
+in_second (failures.Cause (refusals.Due r)) es fs before middle after m h = absurd h
+in_second (failures.Cause (refusals.Failed name)) es fs before middle after m h = cut_second name es fs before after (rw (← m) h)
+in_second failures.Memory es fs before middle after m h = (h.0, cut_second h.0 es fs before after (rw (← m) h.1))
 
 -- memory may run out before a file is begun
-pub not_begun : (name bytes : List ℕ) (held : Option Held) → IsCut refusals.Memory (written_file name bytes) held held
+pub not_begun : (name bytes : List ℕ) (held : Option Held) → IsCut failures.Memory (written_file name bytes) held held
 not_begun name bytes held = (name, inl (refl, inl refl))
 
 -- the same of a result
 pub not_begun_if : {T : Type 0} (r : Result T Refusal) (name bytes : List ℕ) (fs : List Effect) (held : Option Held)
-    → IfErr r (λ e. e ≡ refusals.Memory) → IfErr r (λ e. IsCut e (written_file name bytes ++ fs) held held)
+    → IfErr r (λ e. e ≡ failures.Memory) → IfErr r (λ e. IsCut e (written_file name bytes ++ fs) held held)
 not_begun_if r name bytes fs held h =
-    IfErr-weaker r _ _ (λ e is. subst (λ x. IsCut x (written_file name bytes ++ fs) held held) (sym is) (in_first refusals.Memory (written_file name bytes) fs held held (not_begun name bytes held))) h
+    IfErr-weaker r _ _ (λ e is. subst (λ x. IsCut x (written_file name bytes ++ fs) held held) (sym is) (in_first failures.Memory (written_file name bytes) fs held held (not_begun name bytes held))) h
 
 pub in_first_if : {T : Type 0} (r : Result T Refusal) (es fs : List Effect) (before after : Option Held)
     → IfErr r (λ e. IsCut e es before after) → IfErr r (λ e. IsCut e (es ++ fs) before after)

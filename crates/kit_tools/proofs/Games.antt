@@ -2,9 +2,9 @@
 use Rattle.std.proofs.Common.{◌≡◌, inl, refl, sym, ap, subst}
 use Rattle.std.specs.Prelude.{Option, Some, None, Result, Ok, Err, IfSome}
 use Rattle.kit_base.specs.Held.{Held}
+use Rattle.kit_base.specs.declared.failure.Failure.TheVariants as failures
 use Rattle.run_core.specs.Outputs.{Names, run_outputs}
-use Rattle.kit_tools.specs.declared.refusal.Refusal.{Refusal}
-use Rattle.kit_tools.specs.declared.refusal.Refusal.TheVariants as refusals
+use Rattle.kit_tools.specs.Refusal.{Refusal}
 use Rattle.kit_tools.specs.declared.shown.Shown.{Shown}
 use Rattle.kit_words.specs.Command.{RunWords}
 use Rattle.kit_tools.specs.Inputs.{◌>>=◌}
@@ -34,9 +34,9 @@ module _ (words : RunWords) (game : Game) where
   run_left r (Some m) h1 h2 read same written = left_by r m h2 read (subst (λ h. IsCarried work r h h2) same written)
 
 -- memory may run out before the first file is begun
-not_begun : (names : Names) (game : Game) (held : Option Held) → IsCarried (run_work names game) (Err refusals.Memory) held held
+not_begun : (names : Names) (game : Game) (held : Option Held) → IsCarried (run_work names game) (Err failures.Memory) held held
 unfolding run_outputs
 not_begun names game held = (names.frames, inl (refl, inl refl))
 
-pub not_begun_if : (names : Names) (game : Game) (r : Result Shown Refusal) (held : Option Held) → r ≡ Err refusals.Memory → IsCarried (run_work names game) r held held
+pub not_begun_if : (names : Names) (game : Game) (r : Result Shown Refusal) (held : Option Held) → r ≡ Err failures.Memory → IsCarried (run_work names game) r held held
 not_begun_if names game r held e = subst (λ x. IsCarried (run_work names game) x held held) (sym e) (not_begun names game held)

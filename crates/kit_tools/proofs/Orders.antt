@@ -2,11 +2,12 @@
 use Rattle.std.proofs.Common.{ℕ, ◌≡◌, List, [], ◌∷◌, subst}
 use Rattle.std.specs.Prelude.{Option, Some, None, Ok, IfSome}
 use Rattle.kit_base.specs.Held.{Held}
+use Rattle.kit_base.specs.declared.failure.Failure.TheVariants as failures
 use Rattle.cart_format.specs.Cartridge.{Cartridge}
 use Rattle.run_files.specs.Script.{Script}
 use Rattle.kit_words.specs.Command.{RunWords}
-use Rattle.kit_tools.specs.declared.refusal.Refusal.{Refusal}
-use Rattle.kit_tools.specs.declared.refusal.Refusal.TheVariants as refusals
+use Rattle.kit_tools.specs.Refusal.{Refusal}
+use Rattle.kit_tools.specs.declared.refusal.RefusalCause.TheVariants as refusals
 use Rattle.kit_tools.specs.Causes.{IsOwn}
 use Rattle.kit_tools.specs.Inputs.{cart_due, answers_due}
 use Rattle.kit_tools.specs.Tracing.{IsReadToTrace, reads_cart, reads_answers, reads_card, card_names}
@@ -17,16 +18,16 @@ use Rattle.kit_tools.proofs.Stages.{fails_only, fails_wider}
 
 -- a refusal that no call of the files gave names no file
 own_so : (O : Type 0) (B : List ℕ → Type 0) (e : Refusal) → IsOwn O e → FailsIn B e
-own_so O B (refusals.Due r) own = tt
-own_so O B (refusals.Failed n) own = absurd own
-own_so O B refusals.Memory own = tt
+own_so O B (failures.Cause (refusals.Due r)) own = tt
+own_so O B (failures.Cause (refusals.Failed n)) own = absurd own
+own_so O B failures.Memory own = tt
 
 pub own_stops : (O : Type 0) (AreRead : Held → List ℕ → Type 0) (e : Refusal) (held : Option Held) → IsOwn O e → IfSome held (λ m. FailsIn (AreRead m) e)
 own_stops O AreRead e None own = tt
 own_stops O AreRead e (Some m) own = own_so O (AreRead m) e own
 
 -- nor does want of memory
-pub memory_stops : (AreRead : Held → List ℕ → Type 0) (held : Option Held) → IfSome held (λ m. FailsIn (AreRead m) refusals.Memory)
+pub memory_stops : (AreRead : Held → List ℕ → Type 0) (held : Option Held) → IfSome held (λ m. FailsIn (AreRead m) failures.Memory)
 memory_stops AreRead None = tt
 memory_stops AreRead (Some m) = tt
 

@@ -2,17 +2,18 @@
 use Rattle.std.proofs.Common.{ℕ, ◌≤◌, arith, List, inl, inr}
 use Rattle.std.specs.Prelude.{Result, Ok, Err}
 use Rattle.kit_base.specs.Counts.{Counts, Rose}
+use Rattle.kit_base.specs.declared.failure.Failure.TheVariants as failures
 use Rattle.kit_tools.specs.declared.refusal.DueRefusal.{DueRefusal}
 use Rattle.kit_tools.specs.declared.refusal.DueRefusal.TheVariants as dues
-use Rattle.kit_tools.specs.declared.refusal.Refusal.{Refusal}
-use Rattle.kit_tools.specs.declared.refusal.Refusal.TheVariants as refusals
+use Rattle.kit_tools.specs.Refusal.{Refusal}
+use Rattle.kit_tools.specs.declared.refusal.RefusalCause.TheVariants as refusals
 use Rattle.kit_tools.specs.Carrying.{FailsAt}
 use Rattle.kit_tools.specs.Causes.{HasCause, HasDueCause, HasRisen, HasCausesOr, IsOwn, IsOwnDue}
 
 pub own_fails : (O : Type 0) (names : List (List ℕ)) (e : Refusal) → IsOwn O e → FailsAt names e
-own_fails O names (refusals.Due r) own = tt
-own_fails O names (refusals.Failed n) own = absurd own
-own_fails O names refusals.Memory own = tt
+own_fails O names (failures.Cause (refusals.Due r)) own = tt
+own_fails O names (failures.Cause (refusals.Failed n)) own = absurd own
+own_fails O names failures.Memory own = tt
 
 own_due_cause : (O P : Type 0) (r : DueRefusal) (before after : Counts) → (O → P) → IsOwnDue O r → HasDueCause P r before after
 own_due_cause O P dues.Usage b a over own = absurd own
@@ -24,9 +25,9 @@ own_due_cause O P (dues.OutOfRange w) b a over own = over own
 own_due_cause O P dues.LongCartridge b a over own = over own
 
 pub own_cause : (O P : Type 0) (e : Refusal) (before after : Counts) → (O → P) → IsOwn O e → HasCause P e before after
-own_cause O P (refusals.Due r) b a over own = own_due_cause O P r b a over own
-own_cause O P (refusals.Failed n) b a over own = absurd own
-own_cause O P refusals.Memory b a over own = tt
+own_cause O P (failures.Cause (refusals.Due r)) b a over own = own_due_cause O P r b a over own
+own_cause O P (failures.Cause (refusals.Failed n)) b a over own = absurd own
+own_cause O P failures.Memory b a over own = tt
 
 -- the causes of a last part, after one that left these counts
 rose_later : (a b c : ℕ) → a ≤ b → Rose b c → Rose a c
@@ -44,9 +45,9 @@ later_due_cause O P dues.LongCartridge x y z over m o h = over h
 
 later_cause : (O P : Type 0) (e : Refusal) (x y z : Counts) → (O → P) → x.faults ≤ y.faults → x.misses ≤ y.misses → x.overs ≤ y.overs
     → HasCause O e y z → HasCause P e x z
-later_cause O P (refusals.Due r) x y z over f m o h = later_due_cause O P r x y z over m o h
-later_cause O P (refusals.Failed n) x y z over f m o h = rose_later x.faults y.faults z.faults f h
-later_cause O P refusals.Memory x y z over f m o h = tt
+later_cause O P (failures.Cause (refusals.Due r)) x y z over f m o h = later_due_cause O P r x y z over m o h
+later_cause O P (failures.Cause (refusals.Failed n)) x y z over f m o h = rose_later x.faults y.faults z.faults f h
+later_cause O P failures.Memory x y z over f m o h = tt
 
 later_risen : {T : Type 0} (O P : Type 0) (r : Result T Refusal) (x y z : Counts) → (O → P) → x.faults ≤ y.faults → x.misses ≤ y.misses → x.overs ≤ y.overs
     → HasRisen O r y z → HasRisen P r x z

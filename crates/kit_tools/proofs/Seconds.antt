@@ -2,6 +2,7 @@
 use Rattle.std.proofs.Common.{ℕ, ◌≡◌, ◌≢◌, ◌∙◌, ◌<◌, ◌≤◌, Bool, true, false, List, [], leb, refl, sym, ap, arith}
 use Rattle.std.proofs.lemmas.Bool.{and_from, le-leb}
 use Rattle.std.specs.Prelude.{Option, Some, None, Ok, Err, length, nat_lt}
+use Rattle.kit_base.specs.declared.failure.Failure.TheVariants as failures
 use Rattle.asset_pack.specs.Texts.{Image}
 use Rattle.cart_format.specs.declared.row.LineRow.{LineRow}
 use Rattle.cart_format.specs.declared.row.LineTable.{LineTable}
@@ -9,7 +10,7 @@ use Rattle.cart_format.specs.Cartridge.{Cartridge, is_title, is_tail, is_cart, r
 use Rattle.cart_format.specs.Table.{is_table, are_rows}
 use Rattle.cart_format.proofs.Carts.{limits}
 use Rattle.kit_tools.specs.declared.refusal.DueRefusal.TheVariants as dues
-use Rattle.kit_tools.specs.declared.refusal.Refusal.TheVariants as refusals
+use Rattle.kit_tools.specs.declared.refusal.RefusalCause.TheVariants as refusals
 use Rattle.kit_tools.specs.Migration.{table_or_empty, in_second, second_due}
 
 short : (n : ℕ) → n ≤ 268435456 → nat_lt 268435456 n ≡ false
@@ -60,7 +61,7 @@ over_by c false e h broken = absurd (no_both (second_fits c h (no_more _ e)) bro
 pub second_over : (c : Cartridge) → is_cart c ≡ true → is_cart (in_second c) ≡ false → 268435456 < total (in_second c)
 second_over c h broken = over_by c (nat_lt 268435456 (total (in_second c))) refl h broken
 
-pub second_long : (c : Cartridge) → 268435456 < total (in_second c) → second_due c ≡ Err (refusals.Due dues.LongCartridge)
+pub second_long : (c : Cartridge) → 268435456 < total (in_second c) → second_due c ≡ Err (failures.Cause (refusals.Due dues.LongCartridge))
 second_long c over = rw (is_more (total (in_second c)) over) refl
 
 empty_table : (table : Option LineTable) (n : ℕ) → n ≡ revision table → n ≢ 2 → table_or_empty table ≡ record { files = []; rows = [] }

@@ -3,6 +3,7 @@ use Rattle.std.specs.Prelude.{ℕ, ◌≡◌, List, [], ◌∷◌, ◌++◌, Opt
 use Rattle.kit_base.specs.Held.{Held}
 use Rattle.kit_base.specs.Effects.{Effect, all_done, CutShort}
 use Rattle.kit_base.specs.Digits.{word_digits}
+use Rattle.kit_base.specs.declared.failure.Failure.TheVariants as failures
 use Rattle.trace_core.specs.Putting.{trace_text}
 use Rattle.run_core.specs.Ending.{end_text}
 use Rattle.kit_tools.specs.Running.{end_status}
@@ -10,31 +11,31 @@ use Rattle.kit_tools.specs.Watching.{watch_line}
 use Rattle.kit_tools.specs.declared.shown.Shown.{Shown}
 use Rattle.kit_tools.specs.declared.shown.Shown.TheVariants as shown
 use Rattle.kit_tools.specs.declared.refusal.DueRefusal.{DueRefusal}
-use Rattle.kit_tools.specs.declared.refusal.Refusal.{Refusal}
-use Rattle.kit_tools.specs.declared.refusal.Refusal.TheVariants as refusals
+use Rattle.kit_tools.specs.Refusal.{Refusal}
+use Rattle.kit_tools.specs.declared.refusal.RefusalCause.TheVariants as refusals
 use Rattle.kit_tools.specs.Work.{Work, accepted, as_due, ComesBy}
 
 -- a reading part: its answer is the one that is due, unless memory ran out or a call failed
 abbrev pub GivesBy : {X Y : Type 0} → (X → Y) → Result X Refusal → Result Y Refusal → Type 0
 GivesBy view (Ok x) due = due ≡ Ok (view x)
-GivesBy view (Err (refusals.Due refusal)) due = due ≡ Err (refusals.Due refusal)
-GivesBy view (Err (refusals.Failed name)) due = Unit {0}
-GivesBy view (Err refusals.Memory) due = Unit {0}
+GivesBy view (Err (failures.Cause (refusals.Due refusal))) due = due ≡ Err (failures.Cause (refusals.Due refusal))
+GivesBy view (Err (failures.Cause (refusals.Failed name))) due = Unit {0}
+GivesBy view (Err failures.Memory) due = Unit {0}
 
 -- a call that failed was of one of these files
 abbrev pub FailsIn : (List ℕ → Type 0) → Refusal → Type 0
-FailsIn Reads (refusals.Due refusal) = Unit {0}
-FailsIn Reads (refusals.Failed name) = Reads name
-FailsIn Reads refusals.Memory = Unit {0}
+FailsIn Reads (failures.Cause (refusals.Due refusal)) = Unit {0}
+FailsIn Reads (failures.Cause (refusals.Failed name)) = Reads name
+FailsIn Reads failures.Memory = Unit {0}
 
 abbrev pub FailsAt : List (List ℕ) → Refusal → Type 0
 FailsAt names refusal = FailsIn (Contains names) refusal
 
 -- a writing part: it was cut short inside its effects
 abbrev pub IsCut : Refusal → List Effect → Option Held → Option Held → Type 0
-IsCut (refusals.Due refusal) effects before after = ⊥
-IsCut (refusals.Failed name) effects before after = CutShort name effects before after
-IsCut refusals.Memory effects before after = (name : List ℕ) × CutShort name effects before after
+IsCut (failures.Cause (refusals.Due refusal)) effects before after = ⊥
+IsCut (failures.Cause (refusals.Failed name)) effects before after = CutShort name effects before after
+IsCut failures.Memory effects before after = (name : List ℕ) × CutShort name effects before after
 
 -- the text that is to be put
 abbrev pub text_of : Shown → List ℕ

@@ -2,10 +2,11 @@
 use Rattle.std.specs.Prelude.{ℕ, ◌⊎◌, ◌≤◌, Result, Err}
 use Rattle.kit_base.specs.Counts.{Counts, Rose}
 use Rattle.kit_base.specs.SourceCodes.{HasSourceCause}
+use Rattle.kit_base.specs.declared.failure.Failure.TheVariants as failures
 use Rattle.kit_tools.specs.declared.refusal.DueRefusal.{DueRefusal}
 use Rattle.kit_tools.specs.declared.refusal.DueRefusal.TheVariants as dues
-use Rattle.kit_tools.specs.declared.refusal.Refusal.{Refusal}
-use Rattle.kit_tools.specs.declared.refusal.Refusal.TheVariants as refusals
+use Rattle.kit_tools.specs.Refusal.{Refusal}
+use Rattle.kit_tools.specs.declared.refusal.RefusalCause.TheVariants as refusals
 
 -- A refusal by the files comes only where its count rose, one of a number word or of a cartridge's
 -- size only where it is over its limit. A build's refusal of a limit is of either kind. The words of a
@@ -20,9 +21,9 @@ HasDueCause over dues.LongCartridge before after = over
 HasDueCause over refusal before after = Unit {0}
 
 abbrev pub HasCause : (over : Type 0) → Refusal → (before after : Counts) → Type 0
-HasCause over (refusals.Due refusal) before after = HasDueCause over refusal before after
-HasCause over (refusals.Failed name) before after = Rose before.faults after.faults
-HasCause over refusals.Memory before after = Unit {0}
+HasCause over (failures.Cause (refusals.Due refusal)) before after = HasDueCause over refusal before after
+HasCause over (failures.Cause (refusals.Failed name)) before after = Rose before.faults after.faults
+HasCause over failures.Memory before after = Unit {0}
 
 abbrev pub HasRisen : {T : Type 0} → (over : Type 0) → Result T Refusal → (before after : Counts) → Type 0
 HasRisen over (Err refusal) before after = HasCause over refusal before after
@@ -39,9 +40,9 @@ IsOwnDue over dues.LongCartridge = over
 IsOwnDue over refusal = Unit {0}
 
 abbrev pub IsOwn : (over : Type 0) → Refusal → Type 0
-IsOwn over (refusals.Due refusal) = IsOwnDue over refusal
-IsOwn over (refusals.Failed name) = ⊥
-IsOwn over refusals.Memory = Unit {0}
+IsOwn over (failures.Cause (refusals.Due refusal)) = IsOwnDue over refusal
+IsOwn over (failures.Cause (refusals.Failed name)) = ⊥
+IsOwn over failures.Memory = Unit {0}
 
 -- no count falls, and each refusal has its cause
 pub record HasCausesOr {T : Type 0} (over : Type 0) (result : Result T Refusal) (before after : Counts) : Type 0 where

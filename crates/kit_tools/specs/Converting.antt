@@ -17,12 +17,13 @@ use Rattle.assembler.specs.Placed.{labels_of}
 use Rattle.cart_format.specs.Cartridge.{cart_text}
 use Rattle.kit_words.specs.declared.conversion.Conversion.{Conversion}
 use Rattle.kit_words.specs.declared.conversion.Conversion.TheVariants.{Migrate, Assemble, Disassemble}
-use Rattle.kit_tools.specs.declared.refusal.Refusal.{Refusal}
-use Rattle.kit_tools.specs.declared.refusal.Refusal.TheVariants as refusals
+use Rattle.kit_tools.specs.Refusal.{Refusal}
+use Rattle.kit_tools.specs.declared.refusal.RefusalCause.TheVariants as refusals
 use Rattle.kit_tools.specs.declared.refusal.DueRefusal.TheVariants as dues
 use Rattle.kit_tools.specs.Inputs.{◌>>=◌, or_refused, bytes_due, cart_due}
 use Rattle.kit_tools.specs.Migration.{second_due, IsLong}
 use Rattle.kit_base.specs.Effects.{written_file}
+use Rattle.kit_base.specs.declared.failure.Failure.TheVariants as failures
 use Rattle.kit_tools.specs.Work.{Work}
 
 -- the bytes of the cartridge in its second revision
@@ -34,7 +35,7 @@ migrated_due cart held = do
 
 -- the refusal of a text that is no assembly, by its code and its first faulty line or item
 abbrev pub no_assembly : List ℕ → AsmFault → Refusal
-no_assembly text fault = refusals.Due (dues.Bad fault.code text (Some fault.at))
+no_assembly text fault = failures.Cause (refusals.Due (dues.Bad fault.code text (Some fault.at)))
 
 -- the words of the items, or the first faulty item
 abbrev pub placed_unless : List ℕ → List AsmItem → Option AsmFault → Result (List ℕ) Refusal
@@ -56,7 +57,7 @@ assembled_due text held = do
 
 -- the refusal of a file that is no words file
 abbrev pub no_words : List ℕ → AssetFault → Refusal
-no_words name fault = refusals.Due (dues.Bad fault.code name None)
+no_words name fault = failures.Cause (refusals.Due (dues.Bad fault.code name None))
 
 -- the text of the items that the words are taken apart into
 abbrev pub disassembled_due : List ℕ → Held → Result (List ℕ) Refusal

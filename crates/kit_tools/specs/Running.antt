@@ -2,6 +2,7 @@
 use Rattle.std.specs.Prelude.{ℕ, ◌≡◌, ◌&&◌, Bool, List, ◌++◌, nat_le, Option, Some, option_map, Result, Ok, Err, if◌then◌else◌, Contains}
 use Rattle.kit_base.specs.Held.{Held}
 use Rattle.kit_base.specs.Effects.{all_done}
+use Rattle.kit_base.specs.declared.failure.Failure.TheVariants as failures
 use Rattle.cart_format.specs.Cartridge.{Cartridge}
 use Rattle.run_files.specs.PadsReading.{pads_of}
 use Rattle.run_files.specs.Script.{Script}
@@ -10,8 +11,8 @@ use Rattle.v32_console.specs.declared.frame_end.FrameEnd.TheVariants.{Full, Wait
 use Rattle.v32_console.specs.Setup.{Setup, setup_of}
 use Rattle.run_core.specs.Ending.{Lines, end_text, lines_of}
 use Rattle.run_core.specs.Outputs.{Names, run_end, run_outputs}
-use Rattle.kit_tools.specs.declared.refusal.Refusal.{Refusal}
-use Rattle.kit_tools.specs.declared.refusal.Refusal.TheVariants as refusals
+use Rattle.kit_tools.specs.Refusal.{Refusal}
+use Rattle.kit_tools.specs.declared.refusal.RefusalCause.TheVariants as refusals
 use Rattle.kit_tools.specs.declared.refusal.DueRefusal.TheVariants as dues
 use Rattle.kit_words.specs.Command.{RunWords, Run, command_of}
 use Rattle.kit_tools.specs.Tracing.{card_names}
@@ -21,7 +22,7 @@ use Rattle.kit_tools.specs.Work.{Work}
 
 -- the refusal of a pads file, by its code and its first faulty line
 abbrev pub no_pads : List ℕ → ℕ × ℕ → Refusal
-no_pads name (code, line) = refusals.Due (dues.Bad code name (Some line))
+no_pads name (code, line) = failures.Cause (refusals.Due (dues.Bad code name (Some line)))
 
 -- the script of the pads file
 abbrev pub pads_due : List ℕ → Held → Result Script Refusal
@@ -34,7 +35,7 @@ abbrev pub is_up_to : (greatest count : ℕ) → Bool
 is_up_to greatest count = nat_le 1 count && nat_le count greatest
 
 abbrev pub count_up_to : (greatest : ℕ) → List ℕ → Result ℕ Refusal
-count_up_to greatest word = if is_up_to greatest (number_of word) then Ok (number_of word) else Err (refusals.Due (dues.OutOfRange word))
+count_up_to greatest word = if is_up_to greatest (number_of word) then Ok (number_of word) else Err (failures.Cause (refusals.Due (dues.OutOfRange word)))
 
 -- a run has 1 to 3,600 frames
 abbrev pub is_count : ℕ → Bool

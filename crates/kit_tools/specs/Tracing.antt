@@ -1,11 +1,12 @@
 -- The command `trace`: the text of a run of so many steps, and what a status 0 says of it.
 use Rattle.std.specs.Prelude.{ℕ, ◌≡◌, ◌≤◌, List, [], ◌∷◌, ◌++◌, nat_lt, Option, Some, None, option_map, Result, Ok, Err, if◌then◌else◌, Contains}
 use Rattle.kit_base.specs.Held.{Held}
+use Rattle.kit_base.specs.declared.failure.Failure.TheVariants as failures
 use Rattle.v32_isa.specs.Runs.{machine_runs}
 use Rattle.cart_format.specs.Cartridge.{Cartridge}
 use Rattle.trace_core.specs.Texts.{run_text}
-use Rattle.kit_tools.specs.declared.refusal.Refusal.{Refusal}
-use Rattle.kit_tools.specs.declared.refusal.Refusal.TheVariants as refusals
+use Rattle.kit_tools.specs.Refusal.{Refusal}
+use Rattle.kit_tools.specs.declared.refusal.RefusalCause.TheVariants as refusals
 use Rattle.kit_tools.specs.declared.refusal.DueRefusal.TheVariants as dues
 use Rattle.kit_words.specs.Command.{Trace, command_of}
 use Rattle.kit_words.specs.Number.{number_of}
@@ -14,7 +15,7 @@ use Rattle.kit_tools.specs.Work.{Work}
 
 -- a run has at most 10,000,000 steps
 abbrev pub steps_due : List ℕ → Result ℕ Refusal
-steps_due word = if nat_lt 10000000 (number_of word) then Err (refusals.Due (dues.OutOfRange word)) else Ok (number_of word)
+steps_due word = if nat_lt 10000000 (number_of word) then Err (failures.Cause (refusals.Due (dues.OutOfRange word))) else Ok (number_of word)
 
 -- the text of the run: the cartridge's program on these answers, with that card
 abbrev pub traced_due : (cart answers : List ℕ) (card : Option (List ℕ)) (steps : List ℕ) → Held → Result (List ℕ) Refusal

@@ -3,7 +3,7 @@ use Rattle.std.specs.Prelude.{ℕ, Bool, List, [], ◌∷◌, ◌++◌, Result, 
 use Rattle.std.specs.Fmt.{decimal}
 use Rattle.kit_base.specs.Held.{Held}
 use Rattle.kit_words.specs.Command.{WatchWords}
-use Rattle.kit_tools.specs.declared.refusal.Refusal.{Refusal}
+use Rattle.kit_tools.specs.Refusal.{Refusal}
 use Rattle.kit_tools.specs.declared.verdict.Verdict.{Verdict}
 use Rattle.kit_tools.specs.declared.verdict.Verdict.TheVariants as verdicts
 use Rattle.kit_tools.specs.Running.{Settings, is_up_to, settings_up_to, IsReadToSetBy}

@@ -12,7 +12,7 @@ ghost use Rattle.kit_tools.specs.Inputs.{or_refused};
 ghost use Rattle.kit_tools.specs.Migration.{IsLong, in_second, second_due};
 
 use crate::reading::{read_cart_file, read_file};
-use crate::refusal::{DueRefusal, Refusal};
+use crate::refusal::{DueRefusal, Refusal, RefusalCause};
 use crate::shown::Shown;
 use crate::writing::write_output;
 use asm_items::{disassemble, write_asm};
@@ -42,7 +42,7 @@ fn in_second(alloc: Global, cart: Cart) -> Result<Cart, Refusal>
     let (files, rows) = (Vec::new(alloc), Vec::new(alloc));
     match Cart::with_lines(title, program, textures, sounds, files, rows) {
         Some(second) => Ok(second),
-        None => Err(Refusal::Due(DueRefusal::LongCartridge)),
+        None => Err(Refusal::Cause(RefusalCause::Due(DueRefusal::LongCartridge))),
     }
 }
 
@@ -72,11 +72,11 @@ fn words_of_text(alloc: Global, name: &str, text: &[u8]) -> Result<Seq<u32>, Ref
         Ok(words) => Ok(words),
         Err(AsmErr::Cause(AsmFault { code, at })) => {
             let name = Name::new(alloc, name)?;
-            Err(Refusal::Due(DueRefusal::Bad {
+            Err(Refusal::Cause(RefusalCause::Due(DueRefusal::Bad {
                 code,
                 name,
                 line: Some(at),
-            }))
+            })))
         }
         Err(AsmErr::Memory) => Err(Refusal::Memory),
     }
@@ -105,11 +105,11 @@ fn words_of_file(alloc: Global, name: &str, bytes: &[u8]) -> Result<Vec<u32>, Re
         Ok(words) => Ok(words),
         Err(AssetErr::Cause(AssetFault { code })) => {
             let name = Name::new(alloc, name)?;
-            Err(Refusal::Due(DueRefusal::Bad {
+            Err(Refusal::Cause(RefusalCause::Due(DueRefusal::Bad {
                 code,
                 name,
                 line: None,
-            }))
+            })))
         }
         Err(AssetErr::Memory) => Err(Refusal::Memory),
     }

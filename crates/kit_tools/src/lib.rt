@@ -20,7 +20,7 @@ pub use converting::convert_command;
 pub use laws::disassembly_is_assembled_to_its_file;
 pub use putting::{put_both, put_piece};
 pub use reading::read_file;
-pub use refusal::{DueRefusal, Refusal, line_of, status_of};
+pub use refusal::{DueRefusal, Refusal, RefusalCause, line_of, status_of};
 pub use running::{
     Loaded, LoadedSettings, Opened, OwnNames, open_game, read_settings, read_watch_settings,
     run_command, write_outputs,

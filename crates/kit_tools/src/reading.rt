@@ -14,7 +14,7 @@ ghost use Rattle.kit_tools.specs.Carrying.{GivesBy, FailsAt};
 ghost use Rattle.kit_tools.specs.Causes.{HasCauses, IsOwn};
 ghost use Rattle.kit_tools.specs.Inputs.{answers_due, card_due, card_in, cart_due, no_answers, no_cart, or_refused, unread};
 
-use crate::refusal::{DueRefusal, Refusal, no_cart, unread};
+use crate::refusal::{DueRefusal, Refusal, RefusalCause, no_cart, unread};
 use cart_format::{Cart, CartErr, read_cart};
 use kit_base::{FileErr, Files, Name};
 use run_files::{AnswerErr, CardErr, read_answers, read_card};
@@ -77,11 +77,11 @@ fn answers_of_text(alloc: Global, name: &str, text: &[u8]) -> Result<Vec<u32>, R
         Ok(answers) => Ok(answers),
         Err(AnswerErr::At { line }) => {
             let own = Name::new(alloc, name)?;
-            Err(Refusal::Due(DueRefusal::Bad {
+            Err(Refusal::Cause(RefusalCause::Due(DueRefusal::Bad {
                 code: 111,
                 name: own,
                 line: Some(u64::from(line)),
-            }))
+            })))
         }
         Err(AnswerErr::Memory) => Err(Refusal::Memory),
     }
@@ -114,11 +114,11 @@ fn card_of_bytes(alloc: Global, name: &str, bytes: &[u8]) -> Result<Vec<u32>, Re
         Ok(words) => Ok(words),
         Err(CardErr::At { code }) => {
             let name = Name::from_bytes(alloc, name.as_bytes())?;
-            Err(Refusal::Due(DueRefusal::Bad {
+            Err(Refusal::Cause(RefusalCause::Due(DueRefusal::Bad {
                 code,
                 name,
                 line: None,
-            }))
+            })))
         }
         Err(CardErr::Memory) => Err(Refusal::Memory),
     }

@@ -3,10 +3,9 @@ ghost use Rattle.std.specs.Prelude.{◌≡◌, IfOk};
 ghost use Rattle.kit_tools.specs.Refusal.{due_line, due_status, line_of, status_of};
 ghost use Rattle.kit_tools.specs.Inputs.{no_cart, unread};
 ghost use Rattle.kit_tools.specs.declared.refusal.DueRefusal.TheVariants.{Source, Bad};
-ghost use Rattle.kit_tools.specs.declared.refusal.Refusal.TheVariants.{Memory};
 
 use cart_format::CartFault;
-use kit_base::{FileErr, Name, join_pieces};
+use kit_base::{Failure, FileErr, Name, join_pieces};
 use std::alloc::{AllocError, Global};
 
 /// A refusal that the words or the files are due: the words are no form (1), the sources give no program (2), a file is missing (4), a file is
@@ -31,30 +30,24 @@ pub enum DueRefusal {
     LongCartridge,
 }
 
-/// Why a command is refused: one that is due, a call of the files that failed, at the file of that name (5), or want of memory (8).
+/// Why a command is refused where memory is there: a refusal that is due, or a call of the files that failed, at the file of that name (5).
 #[derive(Drop)]
-pub enum Refusal {
+pub enum RefusalCause {
     Due(DueRefusal),
     Failed(Name),
-    Memory,
 }
 
-impl From<kit_base::Memory> for Refusal {
-    ghost from_gives = { λ _ e. e ≡ Memory };
-
-    fn from(_: kit_base::Memory) -> Self {
-        Refusal::Memory
-    }
-}
+/// Why a command is refused: the cause, or want of memory (8).
+pub type Refusal = Failure<RefusalCause>;
 
 /// The refusal of a read of that file.
 pub fn unread(name: Name, error: FileErr) -> Refusal
     ensures { result ≡ unread name error }
 {
     match error {
-        FileErr::Missing => Refusal::Due(DueRefusal::Missing(name)),
-        FileErr::Failed => Refusal::Failed(name),
-        FileErr::TooLong => Refusal::Due(DueRefusal::Limit(name)),
+        FileErr::Missing => Refusal::Cause(RefusalCause::Due(DueRefusal::Missing(name))),
+        FileErr::Failed => Refusal::Cause(RefusalCause::Failed(name)),
+        FileErr::TooLong => Refusal::Cause(RefusalCause::Due(DueRefusal::Limit(name))),
         FileErr::Memory => Refusal::Memory,
     }
 }
@@ -67,11 +60,11 @@ pub fn no_cart(name: Name, fault: CartFault) -> Refusal
         CartFault::At { code } => code,
         CartFault::BadSection(_) => 83,
     };
-    Refusal::Due(DueRefusal::Bad {
+    Refusal::Cause(RefusalCause::Due(DueRefusal::Bad {
         code,
         name,
         line: None,
-    })
+    }))
 }
 
 /// The exit status of a refusal that is due.
@@ -92,8 +85,8 @@ pub fn status_of(refusal: &Refusal) -> u8
     ensures { result ≡ status_of refusal.now }
 {
     match refusal {
-        Refusal::Due(refusal) => due_status(refusal),
-        Refusal::Failed(_) => 5,
+        Refusal::Cause(RefusalCause::Due(refusal)) => due_status(refusal),
+        Refusal::Cause(RefusalCause::Failed(_)) => 5,
         Refusal::Memory => 8,
     }
 }
@@ -155,8 +148,11 @@ pub fn line_of(alloc: Global, refusal: &Refusal) -> Result<Vec<u8>, AllocError>
     ensures { IfOk result (λ v. v.items ≡ line_of refusal.now) }
 {
     match refusal {
-        Refusal::Due(refusal) => due_line(alloc, refusal),
-        Refusal::Failed(name) => join_pieces(alloc, &[b"file fault ", name.bytes(), b"\n"]),
+        Refusal::Cause(RefusalCause::Due(refusal)) => due_line(alloc, refusal),
+        Refusal::Cause(RefusalCause::Failed(name)) => join_pieces(
+            alloc,
+            &[b"file fault ", name.bytes(), b"\n"],
+        ),
         Refusal::Memory => join_pieces(alloc, &[b"out of memory", b"\n"]),
     }
 }

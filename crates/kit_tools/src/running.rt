@@ -20,7 +20,7 @@ ghost use Rattle.kit_tools.specs.Gaming.{AreNames, IsOpened, game_of, settings_o
 ghost use Rattle.kit_words.specs.Number.{number_of};
 
 use crate::reading::{read_card_file, read_cart_file, read_file};
-use crate::refusal::{DueRefusal, Refusal};
+use crate::refusal::{DueRefusal, Refusal, RefusalCause};
 use crate::shown::Shown;
 use cart_format::Cart;
 use kit_base::{FileErr, Files, Memory as OutOfMemory, Name};
@@ -62,7 +62,9 @@ fn count_up_to(alloc: Global, greatest: u32, word: &str) -> Result<u32, Refusal>
 {
     let count = number_of(word.as_bytes());
     if count < 1 || count > greatest {
-        return Err(Refusal::Due(DueRefusal::OutOfRange(Name::new(alloc, word)?)));
+        return Err(Refusal::Cause(RefusalCause::Due(DueRefusal::OutOfRange(Name::new(
+            alloc, word,
+        )?))));
     }
     Ok(count)
 }
@@ -77,11 +79,11 @@ fn pads_of_text(alloc: Global, name: &str, text: &[u8]) -> Result<Pads, Refusal>
         Ok(pads) => Ok(pads),
         Err(PadsErr::At { code, line }) => {
             let own = Name::new(alloc, name)?;
-            Err(Refusal::Due(DueRefusal::Bad {
+            Err(Refusal::Cause(RefusalCause::Due(DueRefusal::Bad {
                 code,
                 name: own,
                 line: Some(u64::from(line)),
-            }))
+            })))
         }
         Err(PadsErr::Memory) => Err(Refusal::Memory),
     }
@@ -247,7 +249,7 @@ fn unwritten(own: OwnNames, e: Unwritten) -> Refusal
     let name = name_of(own, e.output);
     match e.error {
         FileErr::Memory => Refusal::Memory,
-        _ => Refusal::Failed(name),
+        _ => Refusal::Cause(RefusalCause::Failed(name)),
     }
 }
 

@@ -9,7 +9,7 @@ ghost use Rattle.kit_tools.specs.Tracing.{trace_due, steps_due, traced_due, IsRe
 ghost use Rattle.kit_words.specs.Number.{number_of};
 
 use crate::reading::{read_answers_file, read_card_file, read_cart_file};
-use crate::refusal::{DueRefusal, Refusal};
+use crate::refusal::{DueRefusal, Refusal, RefusalCause};
 use crate::shown::Shown;
 use cpu_core::Cpu;
 use kit_base::{Files, Name};
@@ -27,7 +27,9 @@ fn steps_of(alloc: Global, word: &str) -> Result<u32, Refusal>
 {
     let steps = number_of(word.as_bytes());
     if steps > STEP_LIMIT {
-        return Err(Refusal::Due(DueRefusal::OutOfRange(Name::new(alloc, word)?)));
+        return Err(Refusal::Cause(RefusalCause::Due(DueRefusal::OutOfRange(Name::new(
+            alloc, word,
+        )?))));
     }
     Ok(steps)
 }

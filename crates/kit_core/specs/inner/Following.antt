@@ -2,14 +2,14 @@
 use Rattle.std.specs.Prelude.{ℕ, ◌≡◌, ◌≤◌, List, Result, Ok, Err}
 use Rattle.kit_base.specs.Held.{Held}
 use Rattle.kit_base.specs.declared.name.Memory.{Memory}
+use Rattle.kit_base.specs.declared.failure.Failure.TheVariants as failures
 use Rattle.cpu_core.specs.Space.{words_of}
 use Rattle.v32_console.specs.Setup.{Setup}
 use Rattle.run_core.specs.Stands.{RunStands}
 use Rattle.build_core.specs.declared.error.BuildErr.{BuildErr}
 use Rattle.build_core.specs.Build.{Builds}
 use Rattle.build_core.specs.BuiltFrom.{IsBuiltFrom}
-use Rattle.kit_tools.specs.declared.refusal.Refusal.{Refusal}
-use Rattle.kit_tools.specs.declared.refusal.Refusal.TheVariants as refusals
+use Rattle.kit_tools.specs.Refusal.{Refusal}
 use Rattle.kit_tools.specs.declared.shown.Shown.{Shown}
 use Rattle.kit_tools.specs.declared.shown.Shown.TheVariants as shown
 use Rattle.kit_tools.specs.declared.verdict.Verdict.{Verdict}
@@ -36,4 +36,4 @@ pub record IsOpened (u : Setup) (count : ℕ) (frames : List ℕ) (o : Opened) :
 -- a verdict, or want of memory
 abbrev pub shown_by : Result Verdict Memory → Result Shown Refusal
 shown_by (Ok verdict) = Ok (shown.Watched verdict)
-shown_by (Err e) = Err refusals.Memory
+shown_by (Err e) = Err failures.Memory

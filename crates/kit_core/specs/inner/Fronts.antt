@@ -2,9 +2,10 @@
 use Rattle.std.specs.Prelude.{ℕ, ◌≡◌, ◌⊎◌, List, Option, Some, Result, Ok, Err}
 use Rattle.kit_base.specs.Held.{Held}
 use Rattle.kit_base.specs.Effects.{Effect, all_done}
+use Rattle.kit_base.specs.declared.failure.Failure.TheVariants as failures
 use Rattle.kit_tools.specs.declared.refusal.DueRefusal.{DueRefusal}
-use Rattle.kit_tools.specs.declared.refusal.Refusal.{Refusal}
-use Rattle.kit_tools.specs.declared.refusal.Refusal.TheVariants as refusals
+use Rattle.kit_tools.specs.Refusal.{Refusal}
+use Rattle.kit_tools.specs.declared.refusal.RefusalCause.TheVariants as refusals
 use Rattle.kit_tools.specs.declared.shown.Shown.{Shown}
 use Rattle.kit_tools.specs.Work.{Work}
 use Rattle.kit_tools.specs.Carrying.{LeavesBy}
@@ -32,6 +33,6 @@ Carries result command held after = LeavesBehind (front_of command) (form_due co
 -- the number of a word, unless memory ran out
 abbrev pub GivesNumber : Result ℕ Refusal → Result ℕ DueRefusal → Type 0
 GivesNumber (Ok n) number = number ≡ Ok n
-GivesNumber (Err (refusals.Due refusal)) number = number ≡ Err refusal
-GivesNumber (Err (refusals.Failed name)) number = ⊥
-GivesNumber (Err refusals.Memory) number = Unit {0}
+GivesNumber (Err (failures.Cause (refusals.Due refusal))) number = number ≡ Err refusal
+GivesNumber (Err (failures.Cause (refusals.Failed name))) number = ⊥
+GivesNumber (Err failures.Memory) number = Unit {0}

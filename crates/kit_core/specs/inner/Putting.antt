@@ -1,6 +1,6 @@
 -- What one put answers, and what was put of a text. Only private functions cite this.
 use Rattle.std.specs.Prelude.{ℕ, ◌≡◌, ◌⊎◌, List, ◌++◌, take, Option}
-use Rattle.kit_tools.specs.declared.refusal.Refusal.TheVariants as refusals
+use Rattle.kit_base.specs.declared.failure.Failure.TheVariants as failures
 use Rattle.kit_tools.specs.Refusal.{line_of}
 use Rattle.kit_core.specs.Outcome.{putting}
 
@@ -16,4 +16,4 @@ abbrev pub Shows : (status_whole : ℕ) (whole : List ℕ) (status : ℕ) (befor
 Shows status_whole whole status before put =
     ((status ≡ status_whole) × (put ≡ putting whole before))
     ⊎ (((status ≡ 8) ⊎ (status ≡ 9))
-    × ((count : ℕ) × (line_count : ℕ) × (put ≡ putting (take count whole ++ take line_count (line_of refusals.Memory)) before)))
+    × ((count : ℕ) × (line_count : ℕ) × (put ≡ putting (take count whole ++ take line_count (line_of failures.Memory)) before)))

@@ -1,10 +1,10 @@
 use Rattle.std.proofs.Common.{rules, ◌≡◌, refl, sym, subst, ap, ℕ}
 use Rattle.std.specs.declared.alloc.Global.{Global}
 use Rattle.std.specs.Prelude.{Err, IfSome, Vec}
+use Rattle.kit_base.specs.declared.failure.Failure.TheVariants as failures
 use Rattle.build_core.specs.Build.{IsBuilt}
 use Rattle.build_core.specs.Reached.{IsReadToBuild}
 use Rattle.kit_tools.specs.Carrying.{FailsIn}
-use Rattle.kit_tools.specs.declared.refusal.Refusal.TheVariants as refusals
 use Rattle.kit_tools.specs.declared.shown.Shown.TheVariants as shown
 use Rattle.kit_core.specs.Due.{bounds_work, read_bounds_due}
 use Rattle.kit_core.specs.inner.Checking.{TextBuilt}
@@ -30,9 +30,9 @@ returns-in_err-built-clause-told g c =
 
 pub returns-in_err-lines-clause-told : goal.returns-in_err-lines-clause-told
 returns-in_err-lines-clause-told g c =
-    let is : c.from_residual-in_err-lines.result ≡ Err refusals.Memory = search rules in
+    let is : c.from_residual-in_err-lines.result ≡ Err failures.Memory = search rules in
     subst (Left c.args.project.now (read_bounds_due c.args.project.now c.args.cart.now c.args.map.now c.args.text.now) IsReadToBuild (g.F.Reads.held c.args.files.now) (g.F.Reads.held c.build_text.new.files)) (sym is)
-    (left_refused c.args.project.now (read_bounds_due c.args.project.now c.args.cart.now c.args.map.now c.args.text.now) IsReadToBuild c.in_ok-source.source.items refusals.Memory (g.F.Reads.held c.args.files.now) (g.F.Reads.held c.read_file.new.files) (g.F.Reads.held c.build_text.new.files)
+    (left_refused c.args.project.now (read_bounds_due c.args.project.now c.args.cart.now c.args.map.now c.args.text.now) IsReadToBuild c.in_ok-source.source.items failures.Memory (g.F.Reads.held c.args.files.now) (g.F.Reads.held c.read_file.new.files) (g.F.Reads.held c.build_text.new.files)
     c.in_ok-source.ensures.told c.in_ok-source.ensures.held (nothing (g.F.Reads.held c.read_file.new.files)) (nothing (g.F.Reads.held c.read_file.new.files)) c.in_ok-built.ensures.held)
 
 pub returns-in_err-write_three-clause-told : goal.returns-in_err-write_three-clause-told

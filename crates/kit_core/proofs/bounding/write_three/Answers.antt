@@ -1,8 +1,8 @@
 use Rattle.std.proofs.Common.{rules, ◌≡◌, ◌++◌}
 use Rattle.std.specs.Prelude.{IfErr}
 use Rattle.kit_base.specs.Effects.{written_file}
+use Rattle.kit_base.specs.declared.failure.Failure.TheVariants as failures
 use Rattle.project_text.specs.MapText.{map_text}
-use Rattle.kit_tools.specs.declared.refusal.Refusal.TheVariants as refusals
 use Rattle.kit_tools.specs.Carrying.{IsCut}
 use Rattle.kit_tools.proofs.Cutting.{in_first_if, in_second_if, not_begun_if}
 use Rattle.kit_core.specs.Due.{outputs_of}
@@ -10,12 +10,12 @@ use Rattle.kit_core.proofs.bounding.write_three.Goals as goal
 
 pub returns-in_err-outputs-clause-err : goal.returns-in_err-outputs-clause-err
 returns-in_err-outputs-clause-err g c =
-    let memory : IfErr c.from_residual.result (λ e. e ≡ refusals.Memory) = search rules in
+    let memory : IfErr c.from_residual.result (λ e. e ≡ failures.Memory) = search rules in
     not_begun_if c.from_residual.result c.args.cart.now c.args.built.now.cart (written_file c.args.map.now (map_text c.args.built.now.map) ++ written_file c.args.text.now c.args.built.now.asm) _ memory
 
 pub returns-in_err-text_name-clause-err : goal.returns-in_err-text_name-clause-err
 returns-in_err-text_name-clause-err g c =
-    let memory : IfErr c.from_residual-in_err-text_name.result (λ e. e ≡ refusals.Memory) = search rules in
+    let memory : IfErr c.from_residual-in_err-text_name.result (λ e. e ≡ failures.Memory) = search rules in
     not_begun_if c.from_residual-in_err-text_name.result c.args.cart.now c.args.built.now.cart (written_file c.args.map.now (map_text c.args.built.now.map) ++ written_file c.args.text.now c.args.built.now.asm) _ memory
 
 pub returns-in_err-write_made-clause-err : goal.returns-in_err-write_made-clause-err

@@ -1,9 +1,9 @@
 use Rattle.std.proofs.Common.{rules, ◌≡◌, ◌∙◌, sym, subst, ap, ℕ}
 use Rattle.std.specs.declared.alloc.Global.{Global}
 use Rattle.std.specs.Prelude.{Err, IfSome, Vec}
+use Rattle.kit_base.specs.declared.failure.Failure.TheVariants as failures
 use Rattle.build_core.specs.Build.{IsBuilt}
 use Rattle.build_core.specs.Reached.{IsReadToBuild}
-use Rattle.kit_tools.specs.declared.refusal.Refusal.TheVariants as refusals
 use Rattle.kit_words.specs.Parsed.{run_words_from}
 use Rattle.kit_tools.specs.Carrying.{FailsIn, GivesBy}
 use Rattle.kit_core.specs.inner.Checking.{TextBuilt}
@@ -51,9 +51,9 @@ returns-in_err-settings-clause-told g c =
 
 pub returns-in_err-game-clause-told : goal.returns-in_err-game-clause-told
 returns-in_err-game-clause-told g c =
-    let is : c.from_residual-in_err-game.result ≡ Err refusals.Memory = search rules in
+    let is : c.from_residual-in_err-game.result ≡ Err failures.Memory = search rules in
     subst (Left c.args.project.now (read_play_due c.args.project.now c.args.map.now (run_words_from c.args.words.now)) (IsReadToPlay (run_words_from c.args.words.now)) (g.F.Reads.held c.args.files.now) (g.F.Reads.held c.read_settings.new.files)) (sym is)
-    (left_refused c.args.project.now (read_play_due c.args.project.now c.args.map.now (run_words_from c.args.words.now)) (IsReadToPlay (run_words_from c.args.words.now)) c.in_ok-text.text.items refusals.Memory (g.F.Reads.held c.args.files.now) (g.F.Reads.held c.read_file.new.files) (g.F.Reads.held c.read_settings.new.files)
+    (left_refused c.args.project.now (read_play_due c.args.project.now c.args.map.now (run_words_from c.args.words.now)) (IsReadToPlay (run_words_from c.args.words.now)) c.in_ok-text.text.items failures.Memory (g.F.Reads.held c.args.files.now) (g.F.Reads.held c.read_file.new.files) (g.F.Reads.held c.read_settings.new.files)
     c.in_ok-text.ensures.told c.in_ok-text.ensures.held
     ((memory_told c.args.project.now c.in_ok-text.text.items (settings_due (run_words_from c.args.words.now)) (IsReadToSet (run_words_from c.args.words.now)) (g.F.Reads.held c.read_file.new.files)).0) (memory_told c.args.project.now c.in_ok-text.text.items (settings_due (run_words_from c.args.words.now)) (IsReadToSet (run_words_from c.args.words.now)) (g.F.Reads.held c.read_file.new.files)).1 (c.in_ok-settings.ensures.held ∙ c.in_ok-built.ensures.held))
 

@@ -1,9 +1,9 @@
 use Rattle.std.proofs.Common.{rules, false, ◌≡◌, ◌⊎◌, ◌∙◌, sym, subst, ap, inr, ℕ}
 use Rattle.std.specs.declared.alloc.Global.{Global}
 use Rattle.std.specs.Prelude.{Err, IfSome, Vec}
+use Rattle.kit_base.specs.declared.failure.Failure.TheVariants as failures
 use Rattle.build_core.specs.BuiltFrom.{IsBuiltFrom}
 use Rattle.build_core.specs.Reached.{IsReadToBuild}
-use Rattle.kit_tools.specs.declared.refusal.Refusal.TheVariants as refusals
 use Rattle.kit_words.specs.Number.{number_of}
 use Rattle.kit_words.specs.Parsed.{watch_words_from}
 use Rattle.kit_tools.specs.Carrying.{FailsIn, GivesBy}
@@ -53,10 +53,10 @@ returns-in_err-settings-clause-told g c =
 
 pub returns-in_err-cart-clause-told : goal.returns-in_err-cart-clause-told
 returns-in_err-cart-clause-told g c =
-    let is : c.from_residual-in_err-cart.result ≡ Err refusals.Memory = search rules in
+    let is : c.from_residual-in_err-cart.result ≡ Err failures.Memory = search rules in
     let none = memory_told c.args.words.now.project.now c.in_ok-text.text.items (watch_settings_due (watch_words_from c.args.words.now)) (IsReadToSetWatch (watch_words_from c.args.words.now)) (g.F.Reads.held c.read_file.new.files) in
     subst (Left c.args.words.now.project.now (read_watch_due (watch_words_from c.args.words.now)) (IsReadToWatch (watch_words_from c.args.words.now)) (g.F.Reads.held c.args.files.now) (g.F.Reads.held c.read_watch_settings.new.files)) (sym is)
-    (left_refused c.args.words.now.project.now (read_watch_due (watch_words_from c.args.words.now)) (IsReadToWatch (watch_words_from c.args.words.now)) c.in_ok-text.text.items refusals.Memory (g.F.Reads.held c.args.files.now) (g.F.Reads.held c.read_file.new.files) (g.F.Reads.held c.read_watch_settings.new.files)
+    (left_refused c.args.words.now.project.now (read_watch_due (watch_words_from c.args.words.now)) (IsReadToWatch (watch_words_from c.args.words.now)) c.in_ok-text.text.items failures.Memory (g.F.Reads.held c.args.files.now) (g.F.Reads.held c.read_file.new.files) (g.F.Reads.held c.read_watch_settings.new.files)
     c.in_ok-text.ensures.told c.in_ok-text.ensures.held none.0 none.1 (c.in_ok-settings.ensures.held ∙ c.in_ok-made.ensures.held))
 
 pub returns-clause-told : goal.returns-clause-told

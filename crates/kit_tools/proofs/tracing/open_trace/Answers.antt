@@ -1,7 +1,7 @@
 use Rattle.std.proofs.Common.{rules, ◌≡◌, sym, subst}
 use Rattle.std.specs.Prelude.{Err, IfSome, IfErr}
 use Rattle.std.specs.Option.{option_map}
-use Rattle.kit_tools.specs.declared.refusal.Refusal.TheVariants as refusals
+use Rattle.kit_base.specs.declared.failure.Failure.TheVariants as failures
 use Rattle.kit_tools.specs.Carrying.{FailsIn}
 use Rattle.kit_tools.specs.Tracing.{IsReadToTrace}
 use Rattle.kit_tools.proofs.Orders.{at_cart, at_answers, at_card, own_stops, memory_stops}
@@ -41,6 +41,6 @@ returns-in_err-steps-clause-fails g c =
 
 pub returns-in_err-cpu-clause-fails : goal.returns-in_err-cpu-clause-fails
 returns-in_err-cpu-clause-fails g c =
-    let is : c.from_residual-in_err-cpu.result ≡ Err refusals.Memory = search rules in
+    let is : c.from_residual-in_err-cpu.result ≡ Err failures.Memory = search rules in
     subst (λ r. IfSome (g.F.Reads.held c.args.files.now) (λ m. IfErr r (FailsIn (IsReadToTrace c.args.cart.now c.args.answers.now (option_map (λ word. word.now) c.args.card) m)))) (sym is)
     (memory_stops (IsReadToTrace c.args.cart.now c.args.answers.now (option_map (λ word. word.now) c.args.card)) (g.F.Reads.held c.args.files.now))

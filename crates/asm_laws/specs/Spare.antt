@@ -88,7 +88,8 @@ or_else (Some x) y = Some x
 -- what is done with the known word, and by how many operations
 abbrev pub used_by : NodesT Where → Option (ℕ × Used)
 used_by (Do (TwoO o t p q) c) = computed t (operand o p q)
-used_by (Do (StepO t p q) c) = cond (is_in t 8) (at_sum (beside p q) c) (or_else (indexed t (beside p q) c) (or_else (offset t (beside p q) c) (computed t (operand IADD p q))))
+used_by (Do (StepO t p q) c) = cond (is_in t 8) (at_sum (beside p q) c)
+    (or_else (indexed t (beside p q) c) (or_else (offset t (beside p q) c) (computed t (operand IADD p q))))
 used_by (Do (OutO port p) c) = cond (is_in p 8) (Some (1, Sent port)) None
 used_by c = at_address 1 None c
 

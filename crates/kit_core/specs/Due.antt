@@ -60,7 +60,8 @@ built_work cart map_name built = record { effects = outputs_of cart map_name bui
 -- what the build of a project's text is due: its outputs, or why there are none
 abbrev pub text_build_due : (project text cart map_name : List ℕ) → Held → Result Work DueRefusal → Type 0
 text_build_due project text cart map_name held (Ok work) = (b : Built) × IsBuilt held text b × (built_work cart map_name b ≡ work)
-text_build_due project text cart map_name held (Err refusal) = (e : BuildErr) × IsUnbuilt held text e × (unbuilt project e ≡ failures.Cause (refusals.Due refusal))
+text_build_due project text cart map_name held (Err refusal) =
+    (e : BuildErr) × IsUnbuilt held text e × (unbuilt project e ≡ failures.Cause (refusals.Due refusal))
 
 abbrev pub read_build_due : (project cart map_name : List ℕ) → Held → Result (List ℕ) FileErr → Result Work DueRefusal → Type 0
 read_build_due project cart map_name held (Ok text) d = text_build_due project text cart map_name held d
@@ -96,8 +97,10 @@ pub record IsPlay (text map_name : List ℕ) (words : RunWords) (held : Held) (w
 
 -- Nothing is built of the project; or the pads file, the card or the number of frames is refused after a build.
 pub data IsUnset (project text : List ℕ) (due_settings : Held → Result Settings Refusal) (held : Held) (refusal : DueRefusal) : Type 0 where
-  not_built : (e : BuildErr) → IsUnbuilt held text e → unbuilt project e ≡ failures.Cause (refusals.Due refusal) → IsUnset project text due_settings held refusal
-  not_set : (b : Built) → IsBuilt held text b → due_settings held ≡ Err (failures.Cause (refusals.Due refusal)) → IsUnset project text due_settings held refusal
+  not_built : (e : BuildErr) → IsUnbuilt held text e → unbuilt project e ≡ failures.Cause (refusals.Due refusal)
+      → IsUnset project text due_settings held refusal
+  not_set : (b : Built) → IsBuilt held text b → due_settings held ≡ Err (failures.Cause (refusals.Due refusal))
+      → IsUnset project text due_settings held refusal
 
 abbrev pub IsUnplayed : (project text : List ℕ) → RunWords → Held → DueRefusal → Type 0
 IsUnplayed project text words held refusal = IsUnset project text (settings_due words) held refusal
@@ -116,7 +119,8 @@ play_due project map_name words held d = read_play_due project map_name words he
 
 -- the input of a play is refused: that of its build, the pads file, the card or the number of frames
 abbrev pub play_refused : (project : List ℕ) → RunWords → Held → DueRefusal → Type 0
-play_refused project words held refusal = read_build_refused project held (due held project) refusal ⊎ (settings_due words held ≡ Err (failures.Cause (refusals.Due refusal)))
+play_refused project words held refusal =
+    read_build_refused project held (due held project) refusal ⊎ (settings_due words held ≡ Err (failures.Cause (refusals.Due refusal)))
 
 -- the outputs of what was built, and the line of a verdict
 abbrev pub watch_work : WatchWords → Built → Verdict → Work
@@ -173,7 +177,8 @@ pub record IsBounds (text cart map_name text_name : List ℕ) (held : Held) (wor
 
 abbrev pub text_bounds_due : (project text cart map_name text_name : List ℕ) → Held → Result Work DueRefusal → Type 0
 text_bounds_due project text cart map_name text_name held (Ok work) = IsBounds text cart map_name text_name held work
-text_bounds_due project text cart map_name text_name held (Err refusal) = (e : BuildErr) × IsUnbuilt held text e × (unbuilt project e ≡ failures.Cause (refusals.Due refusal))
+text_bounds_due project text cart map_name text_name held (Err refusal) =
+    (e : BuildErr) × IsUnbuilt held text e × (unbuilt project e ≡ failures.Cause (refusals.Due refusal))
 
 abbrev pub read_bounds_due : (project cart map_name text_name : List ℕ) → Held → Result (List ℕ) FileErr → Result Work DueRefusal → Type 0
 read_bounds_due project cart map_name text_name held (Ok text) d = text_bounds_due project text cart map_name text_name held d

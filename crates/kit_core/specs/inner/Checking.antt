@@ -21,9 +21,11 @@ IsOneUnlessStopped These failures.Memory = Unit {0}
 -- its source has a program, or why it has none
 abbrev pub TextChecked : (project text : List ℕ) → Held → Result (Unit {0}) Refusal → Type 0
 TextChecked project text held (Ok x) = (p : ProgramT) × IsAccepted held text p
-TextChecked project text held (Err refusal) = IsOneUnlessStopped (λ r. (e : BuildErr) × IsRejected held text e × (unbuilt project e ≡ failures.Cause (refusals.Due r))) refusal
+TextChecked project text held (Err refusal) =
+    IsOneUnlessStopped (λ r. (e : BuildErr) × IsRejected held text e × (unbuilt project e ≡ failures.Cause (refusals.Due r))) refusal
 
 -- what was built of it, or why nothing was
 abbrev pub TextBuilt : (project text : List ℕ) → Held → Result Built Refusal → Type 0
 TextBuilt project text held (Ok b) = IsBuilt held text b
-TextBuilt project text held (Err refusal) = IsOneUnlessStopped (λ r. (e : BuildErr) × IsUnbuilt held text e × (unbuilt project e ≡ failures.Cause (refusals.Due r))) refusal
+TextBuilt project text held (Err refusal) =
+    IsOneUnlessStopped (λ r. (e : BuildErr) × IsUnbuilt held text e × (unbuilt project e ≡ failures.Cause (refusals.Due r))) refusal

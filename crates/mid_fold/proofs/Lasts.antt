@@ -1,5 +1,5 @@
 -- What lasts of code goes by the words of what it uses alone; of folded code the same lasts.
-use Rattle.std.proofs.Common.{◌≡◌, ℕ, zero, suc, ◌^◌, Bool, true, false, not, cond, eqb, nat_lt, ◌&&◌, min, take, length, List, [], ◌∷◌, map, Option, Some, None, refl, sym, ap, ◌∙◌}
+use Rattle.std.proofs.Common.{◌≡◌, ℕ, zero, suc, ◌^◌, Bool, true, false, not, cond, eqb, nat_lt, ◌&&◌, min, take, length, [], ◌∷◌, map, Option, Some, None, refl, sym, ap, ◌∙◌}
 use Rattle.std.proofs.lemmas.Bool.{eqb-true, eq-eqb}
 use Rattle.v32_isa.specs.declared.instruction.One.{One}
 use Rattle.v32_isa.specs.declared.instruction.Two.{Two}
@@ -35,7 +35,7 @@ made_alike ws vs (OutO port a) h = refl
 made_alike ws vs WaitO h = refl
 made_alike ws vs HaltO h = refl
 
-abbrev operator_if : Two → Bool → Option (OpT (Unit {0}))
+abbrev pub operator_if : Two → Bool → Option (OpT (Unit {0}))
 operator_if o b = cond b (Some (TwoO o tt tt tt)) None
 
 abbrev pub division : Two → Option ℕ → Option (OpT (Unit {0}))
@@ -96,7 +96,7 @@ Within es ws = (q w : ℕ) → word_in es q ≡ Some w → ws q ≡ Some w
 none_within : (ws : KnownWords) → Within [] ws
 none_within ws q w e = absurd cc
 
-other_way : (t q : ℕ) → eqb t q ≡ false → eqb q t ≡ false
+pub other_way : (t q : ℕ) → eqb t q ≡ false → eqb q t ≡ false
 other_way t q e = go (eqb q t) refl
   where
     go : (b : Bool) → eqb q t ≡ b → eqb q t ≡ false

@@ -5,3 +5,10 @@ pub mod Lasts
 pub mod Staying
 pub mod Joined
 pub mod Folds
+pub mod ReuseKnowing
+pub mod ReuseActing
+pub mod ReuseRunning
+pub mod ReuseLasts
+pub mod ReuseStaying
+pub mod ReuseJoined
+pub mod Reuses

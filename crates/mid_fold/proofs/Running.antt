@@ -18,14 +18,14 @@ at_folded (f ∷ fs) (suc h) = at_folded fs h
 
 -- ---- parts of a run
 
-did_same : {S : Type 0} (d e : Did S) (f g : S → Res S) → d ≡ e → ((u : S) → d ≡ On u → f u ≡ g u) → did d f ≡ did e g
+pub did_same : {S : Type 0} (d e : Did S) (f g : S → Res S) → d ≡ e → ((u : S) → d ≡ On u → f u ≡ g u) → did d f ≡ did e g
 did_same {S} d e f g same h = go d refl ∙ ap (λ k. did k g) same
   where
     go : (k : Did S) → d ≡ k → did k f ≡ did k g
     go (On u) q = h u q
     go (Ends end u) q = refl
 
-choose_same : {S : Type 0} (w : Option ℕ) (s : S) (f g a b : S → Res S) → f s ≡ a s → g s ≡ b s → choose w s f g ≡ choose w s a b
+pub choose_same : {S : Type 0} (w : Option ℕ) (s : S) (f g a b : S → Res S) → f s ≡ a s → g s ≡ b s → choose w s f g ≡ choose w s a b
 choose_same None s f g a b p q = refl
 choose_same (Some zero) s f g a b p q = q
 choose_same (Some (suc x)) s f g a b p q = p

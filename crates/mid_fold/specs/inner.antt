@@ -1,2 +1,4 @@
 pub mod Folding
 pub mod Listed
+pub mod Reusing
+pub mod ReusingListed

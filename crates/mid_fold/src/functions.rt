@@ -1,12 +1,15 @@
-// Functions and programs whose known words are worked out.
+// Functions and programs whose known words are worked out, or whose results are used again.
 ghost use Rattle.std.specs.Prelude.{◌≡◌, OnOk, IfOk, map};
 ghost use Rattle.mid_code.specs.Functions.{function};
 ghost use Rattle.mid_code.specs.Whole.{mid};
 ghost use Rattle.mid_fold.specs.FoldedFrom.{IsFoldedFrom};
 ghost use Rattle.mid_fold.specs.inner.Folding.{folded_function};
+ghost use Rattle.mid_fold.specs.inner.Reusing.{reused_function};
 
 use crate::known::Words;
 use crate::nodes::fold_inside;
+use crate::reusing::reuse_inside;
+use crate::seen::{Known, clear_known, nothing_known};
 use kit_base::{Memory, Seq};
 use mid_code::laws::mid_code_is_sound;
 use mid_code::{Code, Function, Mid};
@@ -46,6 +49,49 @@ pub fn fold_words(alloc: Global, m: Mid) -> Result<Mid, Memory>
     fold_function(alloc, &mut words, &mut start)?;
     let mut functions = of.functions.into_vec();
     fold_functions(alloc, &mut words, &mut functions)?;
+    Ok(Mid::new(Code {
+        start,
+        functions: Seq::from_vec(functions),
+        globals: of.globals,
+        literals: of.literals,
+        main: of.main,
+    }))
+}
+
+fn reuse_function(alloc: Global, known: &mut Known, f: &mut Function<u32>) -> Result<(), Memory>
+    ensures { OnOk result (function f.new ≡ reused_function (function f.old)) }
+{
+    clear_known(known);
+    reuse_inside(alloc, known, &mut f.body)?;
+    Ok(())
+}
+
+fn reuse_functions(
+    alloc: Global,
+    known: &mut Known,
+    fs: &mut Vec<Function<u32>>,
+) -> Result<(), Memory>
+    ensures { OnOk result (map function fs.new.items ≡ map reused_function (map function fs.old.items)) }
+{
+    for f in fs.iter_mut() {
+        reuse_function(alloc, known, f)?;
+    }
+    Ok(())
+}
+
+/// The code in which an operator that made the same word of the same operands, in the operations right before it, is a move of the temporary that has that
+/// word still. A sum or difference with a known word stays, as does a division, a comparison and every block, loop, choice and call. The error is want of
+/// memory, and then the code given is dropped.
+pub fn reuse_results(alloc: Global, m: Mid) -> Result<Mid, Memory>
+    ensures reused { IfOk result (λ r. IsFoldedFrom (mid m) (mid r)) }
+{
+    mid_code_is_sound(&m);
+    let of = m.into_code();
+    let mut known = nothing_known(alloc);
+    let mut start = of.start;
+    reuse_function(alloc, &mut known, &mut start)?;
+    let mut functions = of.functions.into_vec();
+    reuse_functions(alloc, &mut known, &mut functions)?;
     Ok(Mid::new(Code {
         start,
         functions: Seq::from_vec(functions),

@@ -7,7 +7,11 @@
 mod folding;
 mod functions;
 mod known;
+mod made;
 mod nodes;
+mod operand;
+mod reusing;
+mod seen;
 
 pub use folding::{one_known, two_known};
-pub use functions::fold_words;
+pub use functions::{fold_words, reuse_results};

@@ -81,7 +81,7 @@ each_folded [] (g ∷ gs) a = absurd a
 each_folded (f ∷ fs) [] a = absurd a
 each_folded (f ∷ fs) (g ∷ gs) a = (function_folded f g a.0, each_folded fs gs a.1)
 
-folded : (x y : CodeT ℕ) → IsFoldedFrom x y → IsNoWorseFrom x y
+pub folded : (x y : CodeT ℕ) → IsFoldedFrom x y → IsNoWorseFrom x y
 folded x y h = record {
   is_mid = h.is_mid;
   keeps = λ frames n answers card is. same_run (mid_runs x frames n answers card) (mid_runs y frames n answers card) (h.runs frames n answers card);

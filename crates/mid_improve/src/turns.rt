@@ -11,15 +11,17 @@ use crate::sinking::sink_words;
 use crate::sweep::sweep_dead;
 use kit_base::Memory;
 use mid_code::Mid;
-use mid_fold::fold_words;
+use mid_fold::{fold_words, reuse_results};
 use std::alloc::Global;
 
-/// The code with its known words worked out, and where they are used, with targets where they are moved at once, in which no operand in a run is a copy.
+/// The code with its known words worked out, and where they are used, with results that stand in a temporary already used again, with targets where they are
+/// moved at once, in which no operand in a run is a copy.
 fn fold_and_forward(alloc: Global, m: Mid) -> Result<Mid, Memory>
     ensures { IfOk result (λ r. IsForwarded (mid m) (mid r)) }
 {
     let folded = fold_words(alloc, m)?;
-    let sunk = sink_words(alloc, folded);
+    let reused = reuse_results(alloc, folded)?;
+    let sunk = sink_words(alloc, reused);
     let moved = retarget_moves(alloc, sunk);
     let forward = forward_words(alloc, moved)?;
     Ok(forward)
@@ -34,8 +36,8 @@ fn sweep_and_forward(alloc: Global, m: Mid) -> Result<Mid, Memory>
     Ok(forward)
 }
 
-/// The settled code: operators on known words are worked out, what is moved at once is put where it is moved, copies are used as what they are copies of, and
-/// what only puts something where nothing reads it is taken out, in rounds. Runs are kept, in no more work; one that strays may go on. Loads, stores, calls,
+/// The settled code: operators on known words are worked out, what an operator made of the same operands is moved, what is moved at once is put where it is
+/// moved, copies are used as what they are copies of, and what only puts something where nothing reads it is taken out, in rounds. Runs are kept, in no more work; one that strays may go on. Loads, stores, calls,
 /// loops, port operations and what makes or ends a local stay. The error is want of memory, and then the code given is dropped.
 #[tactic(auto, using(crate::proofs::Improving::round_falls, crate::proofs::Improving::improved))]
 pub fn improve(alloc: Global, m: Mid) -> Result<Mid, Memory>

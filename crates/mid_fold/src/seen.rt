@@ -1,0 +1,144 @@
+// What is known at a point of temporaries and of results.
+ghost use Rattle.std.specs.Prelude.{◌≡◌, IfOk, OnOk};
+ghost use Rattle.mid_code.specs.Functions.{node};
+ghost use Rattle.mid_fold.specs.inner.Reusing.{nothing_seen, operands_behind, results_behind, with_operand, with_result, made, behind_maybe};
+ghost use Rattle.mid_fold.specs.inner.ReusingListed.{seen, op_reused, op_seen, node_seen, or_move};
+
+use crate::made::{Made, Results, forget_results, know_result, result_of};
+use crate::operand::{Operand, Operands, forget_operands, know_operand, operand_in};
+use kit_base::Memory;
+use mid_code::{Node, Op};
+use std::alloc::Global;
+use v32_isa::Two;
+
+/// What temporaries have.
+#[derive(Drop)]
+pub(crate) struct Known {
+    pub(crate) operands: Operands,
+    pub(crate) results: Results,
+}
+
+pub(crate) fn nothing_known(alloc: Global) -> Known
+    ensures { seen result ≡ nothing_seen }
+{
+    Known {
+        operands: Vec::new(alloc),
+        results: Vec::new(alloc),
+    }
+}
+
+pub(crate) fn copy_known(alloc: Global, known: &Known) -> Result<Known, Memory>
+    ensures { IfOk result (λ r. seen r ≡ seen known.now) }
+{
+    Ok(Known {
+        operands: known.operands.as_slice().to_vec(alloc)?,
+        results: known.results.as_slice().to_vec(alloc)?,
+    })
+}
+
+pub(crate) fn clear_known(known: &mut Known)
+    ensures { seen known.new ≡ nothing_seen }
+{
+    known.operands.clear();
+    known.results.clear();
+}
+
+fn made(known: &Known, o: Two, t: u32, a: u32, b: u32) -> Made
+    ensures { result ≡ made known.now.operands.items o t a b }
+{
+    Made {
+        target: t,
+        by: o,
+        first: operand_in(known.operands.as_slice(), a),
+        second: operand_in(known.operands.as_slice(), b),
+    }
+}
+
+fn put_move(t: u32, o: &mut Op<u32>, q: Option<u32>)
+    ensures { o.new ≡ or_move t o.old q }
+{
+    if let Some(q) = q {
+        *o = Op::Move(t, q);
+    }
+}
+
+/// Puts in the place of an operator the move of a temporary that has its result.
+pub(crate) fn reuse_op(known: &Known, o: &mut Op<u32>)
+    ensures { o.new ≡ op_reused (seen known.now) o.old }
+{
+    match o {
+        Op::Two(by, t, a, b) => {
+            let t = *t;
+            let found = result_of(known.results.as_slice(), made(known, *by, t, *a, *b));
+            put_move(t, o, found);
+        }
+        _ => {}
+    }
+}
+
+fn forget(known: &mut Known, t: Option<u32>)
+    ensures { seen known.new ≡ behind_maybe (seen known.old) t }
+{
+    if let Some(t) = t {
+        forget_operands(&mut known.operands, t);
+        forget_results(&mut known.results, t);
+    }
+}
+
+fn know_as(known: &mut Known, t: u32, x: Operand) -> Result<(), Memory>
+    ensures { OnOk result (seen known.new ≡ (with_operand (operands_behind known.old.operands.items t) t x, results_behind known.old.results.items t)) }
+{
+    forget_operands(&mut known.operands, t);
+    know_operand(&mut known.operands, t, x)?;
+    forget_results(&mut known.results, t);
+    Ok(())
+}
+
+fn know_made(known: &mut Known, m: Made) -> Result<(), Memory>
+    ensures { OnOk result (seen known.new
+        ≡ (operands_behind known.old.operands.items m.target, with_result (results_behind known.old.results.items m.target) m)) }
+{
+    forget_operands(&mut known.operands, m.target);
+    forget_results(&mut known.results, m.target);
+    know_result(&mut known.results, m)
+}
+
+fn see_op(known: &mut Known, o: &Op<u32>) -> Result<(), Memory>
+    ensures { OnOk result (seen known.new ≡ op_seen (seen known.old) o.now) }
+{
+    match o {
+        Op::Const(t, word) => know_as(known, *t, Operand::Word(*word)),
+        Op::Move(t, a) => {
+            let x = operand_in(known.operands.as_slice(), *a);
+            know_as(known, *t, x)
+        }
+        Op::Two(by, t, a, b) => {
+            let m = made(known, *by, *t, *a, *b);
+            know_made(known, m)
+        }
+        Op::Call(_, _, _) => {
+            clear_known(known);
+            Ok(())
+        }
+        _ => {
+            forget(known, o.target());
+            Ok(())
+        }
+    }
+}
+
+/// Makes it what is known behind a node.
+pub(crate) fn see_node(known: &mut Known, n: &Node<u32>) -> Result<(), Memory>
+    ensures { OnOk result (seen known.new ≡ node_seen (seen known.old) (node n.now)) }
+{
+    match n {
+        Node::Do(o) => see_op(known, o)?,
+        Node::Choose(_, _, _) => clear_known(known),
+        Node::Block(_) => clear_known(known),
+        Node::Loop(_) => clear_known(known),
+        Node::Leave(_) => clear_known(known),
+        Node::Again(_) => clear_known(known),
+        Node::Return(_) => clear_known(known),
+    }
+    Ok(())
+}

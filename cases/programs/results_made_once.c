@@ -1,8 +1,8 @@
 // Results that an expression before made, and where they are made anew: an operand, or what has the result, changes between.
-//> out 0x202 0x0001e504
-//> out 0x202 0xfffd88ec
-//> out 0x202 0xfffdbe00
-//> out 0x202 0x00018f48
+//> out 0x202 0x0001E504
+//> out 0x202 0xFFFD88EC
+//> out 0x202 0xFFFDBE00
+//> out 0x202 0x00018F48
 //> halted
 int[32] table;
 int f(int* p, int i, int k)

@@ -10,56 +10,68 @@ use Rattle.obj_mem.specs.Queries.{Answer}
 use Rattle.obj_mem.specs.Stores.{Sizes}
 use Rattle.mid_code.specs.Code.{OpT, ConstO, NullO, MoveO, OneO, TwoO, GlobalO, LocalO, LiteralO, CardO, StepO, ApartO, PtrTestO, LoadO, StoreO, FreshO, EndO, InO, OutO, WaitO, HaltO}
 use Rattle.mid_code.specs.Meaning.{Did, On, Ends}
-use Rattle.mid_code.specs.States.{State, temporaries, put_in, to, to_objects, input, output, acted, op_weight, two_words}
+use Rattle.mid_code.specs.States.{State, temporaries, put_in, to, to_objects, input, output, acted, op_weight, two_words, stepped}
 use Rattle.mid_fold.specs.inner.Reusing.{Seen, operand_in, result_of, made, behind, seen_behind, moved_or, reused_op}
 use Rattle.mid_fold.specs.declared.operand.Operand.TheVariants as operand
+use Rattle.mid_fold.specs.declared.made.Maker.{Maker}
+use Rattle.mid_fold.specs.declared.made.Maker.TheVariants.{Operator, Step}
 use Rattle.mid_fold.proofs.Knowing.{put_off, put_on}
 use Rattle.mid_fold.proofs.ReuseKnowing.{Holds, found_is, operand_is, still_holds, operand_holds, result_holds}
 
 -- ---- an operation stays, or it is a move to the same target
 
-pub each_reused : (P : OpT ℕ → OpT ℕ → Type 0) (k : Seen) → ((o : OpT ℕ) → P o o) → ((o : Two) (t a b q : ℕ) → result_of k.1 (made k.0 o t a b) ≡ Some q → P (TwoO o t a b) (MoveO t q)) → (o : OpT ℕ) → P o (reused_op k o)
-each_reused P k same moves (TwoO o t a b) = go (result_of k.1 (made k.0 o t a b)) refl
+pub each_reused : (P : OpT ℕ → OpT ℕ → Type 0) (k : Seen) → ((o : OpT ℕ) → P o o) → ((o : Two) (t a b q : ℕ) → result_of k.1 (made k.0 (Operator o) t a b) ≡ Some q → P (TwoO o t a b) (MoveO t q))
+    → ((t p n q : ℕ) → result_of k.1 (made k.0 Step t p n) ≡ Some q → P (StepO t p n) (MoveO t q)) → (o : OpT ℕ) → P o (reused_op k o)
+each_reused P k same moves steps (TwoO o t a b) = go (result_of k.1 (made k.0 (Operator o) t a b)) refl
   where
-    go : (r : Option ℕ) → result_of k.1 (made k.0 o t a b) ≡ r → P (TwoO o t a b) (moved_or t (TwoO o t a b) r)
+    go : (r : Option ℕ) → result_of k.1 (made k.0 (Operator o) t a b) ≡ r → P (TwoO o t a b) (moved_or t (TwoO o t a b) r)
     go None e = same (TwoO o t a b)
     go (Some q) e = moves o t a b q e
-each_reused P k same moves (ConstO t n) = same (ConstO t n)
-each_reused P k same moves (NullO t) = same (NullO t)
-each_reused P k same moves (MoveO t a) = same (MoveO t a)
-each_reused P k same moves (OneO o t a) = same (OneO o t a)
-each_reused P k same moves (GlobalO t n) = same (GlobalO t n)
-each_reused P k same moves (LocalO t n) = same (LocalO t n)
-each_reused P k same moves (LiteralO t n) = same (LiteralO t n)
-each_reused P k same moves (CardO t) = same (CardO t)
-each_reused P k same moves (StepO t p n) = same (StepO t p n)
-each_reused P k same moves (ApartO t p q) = same (ApartO t p q)
-each_reused P k same moves (PtrTestO o t p q) = same (PtrTestO o t p q)
-each_reused P k same moves (LoadO t p) = same (LoadO t p)
-each_reused P k same moves (StoreO p a) = same (StoreO p a)
-each_reused P k same moves (FreshO n) = same (FreshO n)
-each_reused P k same moves (EndO n) = same (EndO n)
-each_reused P k same moves (InO t port) = same (InO t port)
-each_reused P k same moves (OutO port a) = same (OutO port a)
-each_reused P k same moves WaitO = same WaitO
-each_reused P k same moves HaltO = same HaltO
+each_reused P k same moves steps (ConstO t n) = same (ConstO t n)
+each_reused P k same moves steps (NullO t) = same (NullO t)
+each_reused P k same moves steps (MoveO t a) = same (MoveO t a)
+each_reused P k same moves steps (OneO o t a) = same (OneO o t a)
+each_reused P k same moves steps (GlobalO t n) = same (GlobalO t n)
+each_reused P k same moves steps (LocalO t n) = same (LocalO t n)
+each_reused P k same moves steps (LiteralO t n) = same (LiteralO t n)
+each_reused P k same moves steps (CardO t) = same (CardO t)
+each_reused P k same moves steps (StepO t p n) = go (result_of k.1 (made k.0 Step t p n)) refl
+  where
+    go : (r : Option ℕ) → result_of k.1 (made k.0 Step t p n) ≡ r → P (StepO t p n) (moved_or t (StepO t p n) r)
+    go None e = same (StepO t p n)
+    go (Some q) e = steps t p n q e
+each_reused P k same moves steps (ApartO t p q) = same (ApartO t p q)
+each_reused P k same moves steps (PtrTestO o t p q) = same (PtrTestO o t p q)
+each_reused P k same moves steps (LoadO t p) = same (LoadO t p)
+each_reused P k same moves steps (StoreO p a) = same (StoreO p a)
+each_reused P k same moves steps (FreshO n) = same (FreshO n)
+each_reused P k same moves steps (EndO n) = same (EndO n)
+each_reused P k same moves steps (InO t port) = same (InO t port)
+each_reused P k same moves steps (OutO port a) = same (OutO port a)
+each_reused P k same moves steps WaitO = same WaitO
+each_reused P k same moves steps HaltO = same HaltO
 
 -- ---- the same is done
 
--- an operator makes a cell of two
-abbrev pub MakesCell : Two → Cell → Cell → Cell → Type 0
-MakesCell o c d e = two_words o c d ≡ Ok e
+abbrev pub address : ℕ → Cell
+address n = Ptr n 0
+
+-- a cell is made of two
+abbrev pub MakesCell : Maker → Cell → Cell → Cell → Type 0
+MakesCell (Operator o) c d e = two_words o c d ≡ Ok e
+MakesCell Step c d e = stepped c d ≡ Ok e
 
 -- what is known is so of the cells
 abbrev pub HoldsOf : Seen → (ℕ → Cell) → Type 0
-HoldsOf = Holds Num MakesCell
+HoldsOf = Holds Num address MakesCell
 
 pub same_done : (z : Sizes) (k : Seen) (o : OpT ℕ) (s : State ℕ) → HoldsOf k s.cells → acted temporaries z (reused_op k o) s ≡ acted temporaries z o s
 same_done z k o s h =
-    each_reused (λ o p. acted temporaries z p s ≡ acted temporaries z o s) k (λ o. refl) (λ o t a b q e. ap (λ r. to temporaries t r s) (sym (found_is Num MakesCell k s.cells o t a b q h e))) o
+    each_reused (λ o p. acted temporaries z p s ≡ acted temporaries z o s) k (λ o. refl) (λ o t a b q e. ap (λ r. to temporaries t r s) (sym (found_is Num address MakesCell k s.cells (Operator o) t a b q h e)))
+    (λ t p n q e. ap (λ r. to temporaries t r s) (sym (found_is Num address MakesCell k s.cells Step t p n q h e))) o
 
 pub same_weight : (k : Seen) (o : OpT ℕ) → op_weight (reused_op k o) ≡ op_weight o
-same_weight k o = each_reused (λ o p. op_weight p ≡ op_weight o) k (λ o. refl) (λ o t a b q e. refl) o
+same_weight k o = each_reused (λ o p. op_weight p ≡ op_weight o) k (λ o. refl) (λ o t a b q e. refl) (λ t p n q e. refl) o
 
 -- ---- what is known behind
 
@@ -77,24 +89,34 @@ module _ (k : Seen) (s u : State ℕ) (h : HoldsOf k s.cells) where
     on = sym (ap (λ (v : State ℕ). v.cells t) e) ∙ put_on s.cells t c
 
   to_holds : (t : ℕ) (a : Answer Cell) → to temporaries t a s ≡ On u → HoldsOf (behind k t) u.cells
-  to_holds t (Ok c) e = let same : put_in temporaries t c s ≡ u = cc in still_holds Num MakesCell t s.cells u.cells (off t c same) k h
+  to_holds t (Ok c) e = let same : put_in temporaries t c s ≡ u = cc in still_holds Num address MakesCell t s.cells u.cells (off t c same) k h
   to_holds t (Err Strays) e = absurd cc
   to_holds t (Err (Faults n)) e = absurd cc
 
   word_holds : (t w : ℕ) → to temporaries t (Ok (Num w)) s ≡ On u → HoldsOf (seen_behind k (ConstO t w)) u.cells
-  word_holds t w e = let same : put_in temporaries t (Num w) s ≡ u = cc in operand_holds Num MakesCell t s.cells u.cells (off t (Num w) same) k (operand.Word w) h (on t (Num w) same)
+  word_holds t w e = let same : put_in temporaries t (Num w) s ≡ u = cc in operand_holds Num address MakesCell t s.cells u.cells (off t (Num w) same) k (operand.Word w) h (on t (Num w) same)
 
   move_holds : (t a : ℕ) → to temporaries t (Ok (s.cells a)) s ≡ On u → HoldsOf (seen_behind k (MoveO t a)) u.cells
   move_holds t a e =
       let same : put_in temporaries t (s.cells a) s ≡ u = cc in
-      operand_holds Num MakesCell t s.cells u.cells (off t (s.cells a) same) k (operand_in k.0 a) h (on t (s.cells a) same ∙ operand_is Num MakesCell k.0 s.cells a h.0)
+      operand_holds Num address MakesCell t s.cells u.cells (off t (s.cells a) same) k (operand_in k.0 a) h (on t (s.cells a) same ∙ operand_is Num address MakesCell k.0 s.cells a h.0)
 
   two_holds : (o : Two) (t a b : ℕ) (r : Answer Cell) → two_words o (s.cells a) (s.cells b) ≡ r → to temporaries t r s ≡ On u → HoldsOf (seen_behind k (TwoO o t a b)) u.cells
   two_holds o t a b (Ok c) f e =
       let same : put_in temporaries t c s ≡ u = cc in
-      result_holds Num MakesCell t s.cells u.cells (off t c same) k o a b h (f ∙ ap Ok (sym (on t c same)))
+      result_holds Num address MakesCell t s.cells u.cells (off t c same) k (Operator o) a b h (f ∙ ap Ok (sym (on t c same)))
   two_holds o t a b (Err Strays) f e = absurd cc
   two_holds o t a b (Err (Faults n)) f e = absurd cc
+
+  step_holds : (t p n : ℕ) (r : Answer Cell) → stepped (s.cells p) (s.cells n) ≡ r → to temporaries t r s ≡ On u → HoldsOf (seen_behind k (StepO t p n)) u.cells
+  step_holds t p n (Ok c) f e =
+      let same : put_in temporaries t c s ≡ u = cc in
+      result_holds Num address MakesCell t s.cells u.cells (off t c same) k Step p n h (f ∙ ap Ok (sym (on t c same)))
+  step_holds t p n (Err Strays) f e = absurd cc
+  step_holds t p n (Err (Faults m)) f e = absurd cc
+
+  address_holds : (t n : ℕ) → to temporaries t (Ok (Ptr n 0)) s ≡ On u → HoldsOf (seen_behind k (GlobalO t n)) u.cells
+  address_holds t n e = let same : put_in temporaries t (Ptr n 0) s ≡ u = cc in operand_holds Num address MakesCell t s.cells u.cells (off t (Ptr n 0) same) k (operand.Address n) h (on t (Ptr n 0) same)
 
   -- the cells stay
   kept : s.cells ≡ u.cells → HoldsOf k u.cells
@@ -112,7 +134,7 @@ module _ (k : Seen) (s u : State ℕ) (h : HoldsOf k s.cells) where
 
   input_holds : (t port : ℕ) (xs : List ℕ) → input temporaries t port xs s ≡ On u → HoldsOf (behind k t) u.cells
   input_holds t port [] e = absurd cc
-  input_holds t port (x ∷ rest) e = still_holds Num MakesCell t s.cells u.cells (λ r n. sym (ap (λ d. cells_of d r) e) ∙ put_off s.cells t (Num x) r n) k h
+  input_holds t port (x ∷ rest) e = still_holds Num address MakesCell t s.cells u.cells (λ r n. sym (ap (λ d. cells_of d r) e) ∙ put_off s.cells t (Num x) r n) k h
 
 pub holds_after : (z : Sizes) (k : Seen) (o : OpT ℕ) (s u : State ℕ) → HoldsOf k s.cells → acted temporaries z o s ≡ On u → HoldsOf (seen_behind k o) u.cells
 holds_after z k (ConstO t n) s u h e = word_holds k s u h t n e
@@ -120,11 +142,11 @@ holds_after z k (NullO t) s u h e = to_holds k s u h t (Ok Null) e
 holds_after z k (MoveO t a) s u h e = move_holds k s u h t a e
 holds_after z k (OneO o t a) s u h e = to_holds k s u h t _ e
 holds_after z k (TwoO o t a b) s u h e = two_holds k s u h o t a b (two_words o (s.cells a) (s.cells b)) refl e
-holds_after z k (GlobalO t n) s u h e = to_holds k s u h t (Ok (Ptr n 0)) e
+holds_after z k (GlobalO t n) s u h e = address_holds k s u h t n e
 holds_after z k (LocalO t n) s u h e = to_holds k s u h t _ e
 holds_after z k (LiteralO t n) s u h e = to_holds k s u h t (Ok (Ptr (z.first_literal + n) 0)) e
 holds_after z k (CardO t) s u h e = to_holds k s u h t (Ok (Ptr z.card 0)) e
-holds_after z k (StepO t p n) s u h e = to_holds k s u h t _ e
+holds_after z k (StepO t p n) s u h e = step_holds k s u h t p n (stepped (s.cells p) (s.cells n)) refl e
 holds_after z k (ApartO t p q) s u h e = to_holds k s u h t _ e
 holds_after z k (PtrTestO o t p q) s u h e = to_holds k s u h t _ e
 holds_after z k (LoadO t p) s u h e = to_holds k s u h t _ e

@@ -3,30 +3,36 @@ use Rattle.std.proofs.Common.{◌≡◌, ℕ, Bool, true, false, not, cond, eqb,
 use Rattle.mid_code.specs.declared.node.Op.{Op}
 use Rattle.mid_code.specs.declared.node.Op.TheVariants as op
 use Rattle.mid_code.specs.declared.node.Node.{Node}
-use Rattle.mid_code.specs.Code.{MoveO, TwoO, NodesT, Do, Choose, Block, Loop, Leave, Again, Return, FunctionT}
+use Rattle.mid_code.specs.Code.{MoveO, TwoO, StepO, NodesT, Do, Choose, Block, Loop, Leave, Again, Return, FunctionT}
 use Rattle.mid_code.specs.Functions.{NodeT, DoN, ChooseN, BlockN, LoopN, LeaveN, AgainN, ReturnN, ListT, NoN, MoreN, op_before, listed, node, before, joined, nodes}
 use Rattle.v32_isa.specs.declared.instruction.Two.{Two}
 use Rattle.mid_fold.specs.declared.made.Made.{Made}
+use Rattle.mid_fold.specs.declared.made.Maker.TheVariants.{Operator, Step}
 use Rattle.mid_fold.specs.inner.Reusing.{Seen, Operands, Results, nothing_seen, is_cell, operands_behind, results_behind, made, result_of, seen_behind, moved_or, reused, reused_function}
 use Rattle.mid_fold.specs.inner.ReusingListed.{or_move, op_reused, op_seen, node_seen, node_reused, list_reused}
 
--- an operator that stays or becomes a move to its target, in memory and as plain data
+-- an operator or a step that stays or becomes a move to its target, in memory and as plain data
 two_is : (k : Seen) (o : Two) (t a b : ℕ) (r : Option ℕ) (c d : NodesT ℕ) → d ≡ reused (op_seen k (or_move t (op.Two o t a b) r)) c
     → op_before (or_move t (op.Two o t a b) r) d ≡ Do (moved_or t (TwoO o t a b) r) (reused (seen_behind k (moved_or t (TwoO o t a b) r)) c)
 two_is k o t a b None c d e = ap (Do (TwoO o t a b)) e
 two_is k o t a b (Some q) c d e = ap (Do (MoveO t q)) e
+
+step_is : (k : Seen) (t p n : ℕ) (r : Option ℕ) (c d : NodesT ℕ) → d ≡ reused (op_seen k (or_move t (op.Step t p n) r)) c
+    → op_before (or_move t (op.Step t p n) r) d ≡ Do (moved_or t (StepO t p n) r) (reused (seen_behind k (moved_or t (StepO t p n) r)) c)
+step_is k t p n None c d e = ap (Do (StepO t p n)) e
+step_is k t p n (Some q) c d e = ap (Do (MoveO t q)) e
 
 op_is : (k : Seen) (o : Op ℕ) (c d : NodesT ℕ) → d ≡ reused (op_seen k (op_reused k o)) c → op_before (op_reused k o) d ≡ reused k (op_before o c)
 op_is k (op.Const t word) c d e = ap (op_before (op.Const t word)) e
 op_is k (op.Null t) c d e = ap (op_before (op.Null t)) e
 op_is k (op.Move t a) c d e = ap (op_before (op.Move t a)) e
 op_is k (op.One o t a) c d e = ap (op_before (op.One o t a)) e
-op_is k (op.Two o t a b) c d e = two_is k o t a b (result_of k.1 (made k.0 o t a b)) c d e
+op_is k (op.Two o t a b) c d e = two_is k o t a b (result_of k.1 (made k.0 (Operator o) t a b)) c d e
 op_is k (op.Global t n) c d e = ap (op_before (op.Global t n)) e
 op_is k (op.Local t n) c d e = ap (op_before (op.Local t n)) e
 op_is k (op.Literal t n) c d e = ap (op_before (op.Literal t n)) e
 op_is k (op.Card t) c d e = ap (op_before (op.Card t)) e
-op_is k (op.Step t p n) c d e = ap (op_before (op.Step t p n)) e
+op_is k (op.Step t p n) c d e = step_is k t p n (result_of k.1 (made k.0 Step t p n)) c d e
 op_is k (op.Apart t p q) c d e = ap (op_before (op.Apart t p q)) e
 op_is k (op.PtrTest o t p q) c d e = ap (op_before (op.PtrTest o t p q)) e
 op_is k (op.Load t p) c d e = ap (op_before (op.Load t p)) e

@@ -5,20 +5,33 @@ use denote.Enum.Bare.{same_true}
 use Rattle.v32_isa.specs.contracts.instruction.Two.{the_type}
 use Rattle.v32_isa.specs.declared.instruction.Two.{Two}
 use Rattle.mid_fold.specs.declared.operand.Operand.{Operand}
-use Rattle.mid_fold.specs.declared.operand.Operand.TheVariants.{Word, Cell}
+use Rattle.mid_fold.specs.declared.operand.Operand.TheVariants.{Word, Address, Cell}
+use Rattle.mid_fold.specs.declared.made.Maker.{Maker}
+use Rattle.mid_fold.specs.declared.made.Maker.TheVariants.{Operator, Step}
 use Rattle.mid_fold.specs.declared.made.Made.{Made}
-use Rattle.mid_fold.specs.inner.Reusing.{Operands, Results, Seen, nothing_seen, operand_in, is_same, is_same_operator, is_made_by, result_in, result_of, is_cell, operands_behind, results_behind, behind, with_operand, is_worth, is_kept, with_result, made}
+use Rattle.mid_fold.specs.inner.Reusing.{Operands, Results, Seen, nothing_seen, operand_in, is_same, is_same_operator, is_same_maker, is_made_by, result_in, result_of, is_cell, operands_behind, results_behind, behind, with_operand, is_worth, is_kept, with_result, made}
 
 -- ---- what equal tests say
 
 same_operator : (a b : Two) → is_same_operator a b ≡ true → a ≡ b
 same_operator a b e = same_true the_type tt a b e
 
+same_maker : (a b : Maker) → is_same_maker a b ≡ true → a ≡ b
+same_maker (Operator a) (Operator b) e = ap Operator (same_operator a b e)
+same_maker Step Step e = refl
+same_maker (Operator a) Step e = absurd cc
+same_maker Step (Operator b) e = absurd cc
+
 same_operand : (x y : Operand) → is_same x y ≡ true → x ≡ y
 same_operand (Word a) (Word b) e = ap Word (eqb-true a b e)
+same_operand (Address a) (Address b) e = ap Address (eqb-true a b e)
 same_operand (Cell a) (Cell b) e = ap Cell (eqb-true a b e)
+same_operand (Word a) (Address b) e = absurd cc
 same_operand (Word a) (Cell b) e = absurd cc
+same_operand (Address a) (Word b) e = absurd cc
+same_operand (Address a) (Cell b) e = absurd cc
 same_operand (Cell a) (Word b) e = absurd cc
+same_operand (Cell a) (Address b) e = absurd cc
 
 both : (a b : Bool) → (a && b) ≡ true → (a ≡ true) × (b ≡ true)
 both true b e = (refl, e)
@@ -34,9 +47,10 @@ is_not true e = absurd cc
 
 -- ---- values
 
-module _ {V : Type 0} (word : ℕ → V) (Makes : Two → V → V → V → Type 0) where
+module _ {V : Type 0} (word address : ℕ → V) (Makes : Maker → V → V → V → Type 0) where
   abbrev pub value : (ℕ → V) → Operand → V
   value vs (Word w) = word w
+  value vs (Address n) = address n
   value vs (Cell q) = vs q
 
   abbrev pub Tells : Operands → (ℕ → V) → Type 0
@@ -56,7 +70,7 @@ module _ {V : Type 0} (word : ℕ → V) (Makes : Two → V → V → V → Type
   pub nothing_holds : (vs : ℕ → V) → Holds nothing_seen vs
   nothing_holds vs = (tt, tt)
 
-  made_of : {o p : Two} {a b c d e f : V} → o ≡ p → a ≡ b → c ≡ d → e ≡ f → Makes o a c e → Makes p b d f
+  made_of : {o p : Maker} {a b c d e f : V} → o ≡ p → a ≡ b → c ≡ d → e ≡ f → Makes o a c e → Makes p b d f
   made_of {o = o} {p = p} {a = a} {b = b} {c = c} {d = d} {e = e} by first second target h =
       subst (λ z. Makes p b d z) target (subst (λ z. Makes p b z e) second (subst (λ z. Makes p z c e) first (subst (λ z. Makes z a c e) by h)))
 
@@ -70,16 +84,16 @@ module _ {V : Type 0} (word : ℕ → V) (Makes : Two → V → V → V → Type
       go r true f = sym (ap vs (eqb-true e.0 q f)) ∙ h.0
       go r false f = r
 
-  made_so : (m : Made) (vs : ℕ → V) (o : Two) (x y : Operand) → IsMade m vs → is_made_by m o x y ≡ true → Makes o (value vs x) (value vs y) (vs m.target)
+  made_so : (m : Made) (vs : ℕ → V) (o : Maker) (x y : Operand) → IsMade m vs → is_made_by m o x y ≡ true → Makes o (value vs x) (value vs y) (vs m.target)
   made_so m vs o x y h e =
-      let parts = both (is_same_operator m.by o) (is_same m.first x && is_same m.second y) e in
+      let parts = both (is_same_maker m.by o) (is_same m.first x && is_same m.second y) e in
       let operands = both (is_same m.first x) (is_same m.second y) parts.1 in
-      let by = same_operator m.by o parts.0 in
+      let by = same_maker m.by o parts.0 in
       let first = same_operand m.first x operands.0 in
       let second = same_operand m.second y operands.1 in
       made_of by (ap (value vs) first) (ap (value vs) second) refl h
 
-  result_is : (ms : Results) (vs : ℕ → V) (o : Two) (x y : Operand) (q : ℕ) → AreMade ms vs → result_in ms o x y ≡ Some q → Makes o (value vs x) (value vs y) (vs q)
+  result_is : (ms : Results) (vs : ℕ → V) (o : Maker) (x y : Operand) (q : ℕ) → AreMade ms vs → result_in ms o x y ≡ Some q → Makes o (value vs x) (value vs y) (vs q)
   result_is [] vs o x y q h e = absurd cc
   result_is (m ∷ ms) vs o x y q h e = go (λ f. result_is ms vs o x y q h.1 f) (is_made_by m o x y) refl e
     where
@@ -89,8 +103,8 @@ module _ {V : Type 0} (word : ℕ → V) (Makes : Two → V → V → V → Type
       go r false f g = r g
 
   -- what stands in the temporary that is found
-  pub found_is : (k : Seen) (vs : ℕ → V) (o : Two) (t a b q : ℕ) → Holds k vs → result_of k.1 (made k.0 o t a b) ≡ Some q → Makes o (vs a) (vs b) (vs q)
-  found_is k vs o t a b q h e = go (is_worth o (operand_in k.0 a) (operand_in k.0 b)) e
+  pub found_is : (k : Seen) (vs : ℕ → V) (o : Maker) (t a b q : ℕ) → Holds k vs → result_of k.1 (made k.0 o t a b) ≡ Some q → Makes o (vs a) (vs b) (vs q)
+  found_is k vs o t a b q h e = go (is_worth k.1 o (operand_in k.0 a) (operand_in k.0 b)) e
     where
       go : (w : Bool) → cond w (result_in k.1 o (operand_in k.0 a) (operand_in k.0 b)) None ≡ Some q → Makes o (vs a) (vs b) (vs q)
       go true f = made_of refl (sym (operand_is k.0 vs a h.0)) (sym (operand_is k.0 vs b h.0)) refl (result_is k.1 vs o (operand_in k.0 a) (operand_in k.0 b) q h.1 f)
@@ -101,6 +115,7 @@ module _ {V : Type 0} (word : ℕ → V) (Makes : Two → V → V → V → Type
   module _ (t : ℕ) (vs us : ℕ → V) (off : (r : ℕ) → eqb r t ≡ false → us r ≡ vs r) where
     value_stays : (x : Operand) → is_cell x t ≡ false → value us x ≡ value vs x
     value_stays (Word w) e = refl
+    value_stays (Address n) e = refl
     value_stays (Cell q) e = off q e
 
     pub still_told : (es : Operands) → Tells es vs → Tells (operands_behind es t) us
@@ -147,9 +162,9 @@ module _ {V : Type 0} (word : ℕ → V) (Makes : Two → V → V → V → Type
         go false f = (e ∙ sym (value_stays x f), first_told (min (length es) 3) es (still_told k.0 h.0))
 
     -- t takes what an operator makes
-    pub result_holds : (k : Seen) (o : Two) (a b : ℕ) → Holds k vs → Makes o (vs a) (vs b) (us t)
+    pub result_holds : (k : Seen) (o : Maker) (a b : ℕ) → Holds k vs → Makes o (vs a) (vs b) (us t)
         → Holds (operands_behind k.0 t, with_result (results_behind k.1 t) (made k.0 o t a b)) us
-    result_holds k o a b h e = (still_told k.0 h.0, go (is_kept (made k.0 o t a b)) refl)
+    result_holds k o a b h e = (still_told k.0 h.0, go (is_kept ms (made k.0 o t a b)) refl)
       where
         ms : Results
         ms = results_behind k.1 t
@@ -160,9 +175,9 @@ module _ {V : Type 0} (word : ℕ → V) (Makes : Two → V → V → V → Type
         y : Operand
         y = operand_in k.0 b
 
-        go : (w : Bool) → is_kept (made k.0 o t a b) ≡ w → AreMade (cond w (made k.0 o t a b ∷ take (min (length ms) 7) ms) ms) us
+        go : (w : Bool) → is_kept ms (made k.0 o t a b) ≡ w → AreMade (cond w (made k.0 o t a b ∷ take (min (length ms) 7) ms) ms) us
         go true f =
-            let parts = both (is_worth o x y) (not (is_cell x t || is_cell y t)) f in
+            let parts = both (is_worth ms o x y) (not (is_cell x t || is_cell y t)) f in
             let off_t = neither (is_cell x t) (is_cell y t) (is_not (is_cell x t || is_cell y t) parts.1) in
             let first : value us x ≡ vs a = value_stays x off_t.0 ∙ sym (operand_is k.0 vs a h.0) in
             let second : value us y ≡ vs b = value_stays y off_t.1 ∙ sym (operand_is k.0 vs b h.0) in

@@ -8,24 +8,30 @@ use Rattle.mid_code.specs.Skeleton.{some_place}
 use Rattle.mid_fold.specs.Lasting.{KnownWords, no_words, one_known, two_known, with_word, words_behind, divides, is_nonzero, lasting}
 use Rattle.mid_fold.specs.declared.operand.Operand.{Operand}
 use Rattle.mid_fold.specs.declared.operand.Operand.TheVariants as operand
-use Rattle.mid_fold.specs.inner.Reusing.{Seen, nothing_seen, operand_in, result_in, result_of, made, behind, is_worth, seen_behind, reused_op, reused}
+use Rattle.mid_fold.specs.declared.made.Maker.{Maker}
+use Rattle.mid_fold.specs.declared.made.Maker.TheVariants.{Operator, Step}
+use Rattle.mid_fold.specs.inner.Reusing.{Seen, nothing_seen, operand_in, result_in, result_of, made, behind, is_operator_worth, seen_behind, reused_op, reused}
 use Rattle.mid_fold.proofs.Lasts.{SameWords, itself, other_way, operator_if, op_lasts}
 use Rattle.mid_fold.proofs.ReuseKnowing.{Holds, nothing_holds, found_is, operand_is, still_holds, operand_holds, result_holds}
 use Rattle.mid_fold.proofs.ReuseActing.{each_reused}
 
--- an operator makes a word of two, where they are known
-abbrev MakesWord : Two → Option ℕ → Option ℕ → Option ℕ → Type 0
-MakesWord o x y w = two_known o x y ≡ w
+abbrev no_word : ℕ → Option ℕ
+no_word n = None
+
+-- a word is made of two, where they are known; an address is none
+abbrev MakesWord : Maker → Option ℕ → Option ℕ → Option ℕ → Type 0
+MakesWord (Operator o) x y w = two_known o x y ≡ w
+MakesWord Step x y w = None ≡ w
 
 abbrev HoldsWords : Seen → KnownWords → Type 0
-HoldsWords = Holds Some MakesWord
+HoldsWords = Holds Some no_word MakesWord
 
 nothing : (ws : KnownWords) → HoldsWords nothing_seen ws
-nothing ws = nothing_holds Some MakesWord ws
+nothing ws = nothing_holds Some no_word MakesWord ws
 
 -- ---- no division is worth it
 
-no_division : (o : Two) (x y : Operand) → is_worth o x y ≡ true → divides o ≡ false
+no_division : (o : Two) (x y : Operand) → is_operator_worth o x y ≡ true → divides o ≡ false
 no_division IEQ x y e = refl
 no_division INE x y e = refl
 no_division IGT x y e = refl
@@ -44,10 +50,10 @@ no_division IMOD x y e = absurd cc
 no_division IMIN x y e = refl
 no_division IMAX x y e = refl
 
-found_worth : (k : Seen) (o : Two) (t a b q : ℕ) → result_of k.1 (made k.0 o t a b) ≡ Some q → divides o ≡ false
-found_worth k o t a b q e = go (is_worth o (operand_in k.0 a) (operand_in k.0 b)) refl e
+found_worth : (k : Seen) (o : Two) (t a b q : ℕ) → result_of k.1 (made k.0 (Operator o) t a b) ≡ Some q → divides o ≡ false
+found_worth k o t a b q e = go (is_operator_worth o (operand_in k.0 a) (operand_in k.0 b)) refl e
   where
-    go : (w : Bool) → is_worth o (operand_in k.0 a) (operand_in k.0 b) ≡ w → cond w (result_in k.1 o (operand_in k.0 a) (operand_in k.0 b)) None ≡ Some q → divides o ≡ false
+    go : (w : Bool) → is_operator_worth o (operand_in k.0 a) (operand_in k.0 b) ≡ w → cond w (result_in k.1 (Operator o) (operand_in k.0 a) (operand_in k.0 b)) None ≡ Some q → divides o ≡ false
     go true f g = no_division o (operand_in k.0 a) (operand_in k.0 b) f
     go false f g = absurd cc
 
@@ -58,9 +64,10 @@ same_words k ws o h =
     each_reused (SameWords ws) k (itself ws)
     (λ o t a b q e. record {
       target = refl;
-      made = sym (found_is Some MakesWord k ws o t a b q h e);
+      made = sym (found_is Some no_word MakesWord k ws (Operator o) t a b q h e);
       lasts = sym (ap (λ d. operator_if o (d && not (is_nonzero (ws b)))) (found_worth k o t a b q e));
-    }) o
+    })
+    (λ t p n q e. record { target = refl; made = sym (found_is Some no_word MakesWord k ws Step t p n q h e); lasts = refl }) o
 
 module _ (k : Seen) (ws : KnownWords) (h : HoldsWords k ws) where
   off : (t : ℕ) (made : Option ℕ) (r : ℕ) → eqb r t ≡ false → with_word (Some t) made ws r ≡ ws r
@@ -70,21 +77,21 @@ module _ (k : Seen) (ws : KnownWords) (h : HoldsWords k ws) where
   on t made = ap (λ b. cond b made (ws t)) (eq-eqb t t refl)
 
   target_holds : (t : ℕ) (made : Option ℕ) → HoldsWords (behind k t) (with_word (Some t) made ws)
-  target_holds t made = still_holds Some MakesWord t ws (with_word (Some t) made ws) (off t made) k h
+  target_holds t made = still_holds Some no_word MakesWord t ws (with_word (Some t) made ws) (off t made) k h
 
   holds_behind : (o : OpT ℕ) → HoldsWords (seen_behind k o) (words_behind ws o)
-  holds_behind (ConstO t n) = operand_holds Some MakesWord t ws (with_word (Some t) (Some n) ws) (off t (Some n)) k (operand.Word n) h (on t (Some n))
+  holds_behind (ConstO t n) = operand_holds Some no_word MakesWord t ws (with_word (Some t) (Some n) ws) (off t (Some n)) k (operand.Word n) h (on t (Some n))
   holds_behind (NullO t) = target_holds t None
-  holds_behind (MoveO t a) = operand_holds Some MakesWord t ws (with_word (Some t) (ws a) ws) (off t (ws a)) k (operand_in k.0 a) h (on t (ws a) ∙ operand_is Some MakesWord k.0 ws a h.0)
+  holds_behind (MoveO t a) = operand_holds Some no_word MakesWord t ws (with_word (Some t) (ws a) ws) (off t (ws a)) k (operand_in k.0 a) h (on t (ws a) ∙ operand_is Some no_word MakesWord k.0 ws a h.0)
   holds_behind (OneO o t a) = target_holds t (one_known o (ws a))
   holds_behind (TwoO o t a b) =
       let word = two_known o (ws a) (ws b) in
-      result_holds Some MakesWord t ws (with_word (Some t) word ws) (off t word) k o a b h (sym (on t word))
-  holds_behind (GlobalO t n) = target_holds t None
+      result_holds Some no_word MakesWord t ws (with_word (Some t) word ws) (off t word) k (Operator o) a b h (sym (on t word))
+  holds_behind (GlobalO t n) = operand_holds Some no_word MakesWord t ws (with_word (Some t) None ws) (off t None) k (operand.Address n) h (on t None)
   holds_behind (LocalO t n) = target_holds t None
   holds_behind (LiteralO t n) = target_holds t None
   holds_behind (CardO t) = target_holds t None
-  holds_behind (StepO t p n) = target_holds t None
+  holds_behind (StepO t p n) = result_holds Some no_word MakesWord t ws (with_word (Some t) None ws) (off t None) k Step p n h (sym (on t None))
   holds_behind (ApartO t p q) = target_holds t None
   holds_behind (PtrTestO o t p q) = target_holds t None
   holds_behind (LoadO t p) = target_holds t None

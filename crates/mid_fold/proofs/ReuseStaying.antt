@@ -1,7 +1,6 @@
 -- Code whose results are used again is mid code, weighs the same, and has the same loops, calls and locals that live at once.
 use Rattle.std.proofs.Common.{◌≡◌, ℕ, zero, suc, ◌+◌, ◌<◌, Bool, true, false, cond, eqb, ◌||◌, List, [], ◌∷◌, min, take, map, length, sum_by, option_map, slice_get, Some, None, refl, ap, subst, ◌∙◌, arith}
 use Rattle.std.proofs.lemmas.List.Sums.{sum_by-cons}
-use Rattle.v32_isa.specs.declared.instruction.Two.{Two}
 use Rattle.mid_code.specs.Code.{OpT, ConstO, NullO, MoveO, OneO, TwoO, GlobalO, LocalO, LiteralO, CardO, StepO, ApartO, PtrTestO, LoadO, StoreO, FreshO, EndO, InO, OutO, WaitO, HaltO, NodesT, Stop, Do, Call, Choose, Block, Loop, Leave, Again, Return, FunctionT, CodeT, maybe, uses, target}
 use Rattle.mid_code.specs.Calls.{AddsNone, NoneAdd}
 use Rattle.mid_code.specs.Invariants.{IsOp, AreNodes, AllOf, Names, CallsNone, IsFunction, IsTemporary, IsMid}
@@ -11,6 +10,8 @@ use Rattle.mid_code.specs.Skeleton.{some_before, some_place, skeleton, SameShape
 use Rattle.mid_code.proofs.Skeletons.{same_shape}
 use Rattle.mid_fold.specs.declared.operand.Operand.{Operand}
 use Rattle.mid_fold.specs.declared.made.Made.{Made}
+use Rattle.mid_fold.specs.declared.made.Maker.{Maker}
+use Rattle.mid_fold.specs.declared.made.Maker.TheVariants.{Operator, Step}
 use Rattle.mid_fold.specs.inner.Reusing.{Seen, Results, nothing_seen, is_made_by, is_worth, is_kept, is_cell, result_in, result_of, results_behind, with_result, made, seen_behind, reused_op, reused, reused_function, reused_code}
 use Rattle.mid_fold.specs.FoldedFrom.{IsFoldedFunction, EachFolded}
 use Rattle.mid_fold.proofs.ReuseActing.{each_reused, same_weight}
@@ -31,7 +32,7 @@ weighs_same k (Return p c) = let h = weighs_same nothing_seen c in omega (arith,
 
 -- loads, stores, locals that are made or ended, and what ports do stay
 kept_op : (k : Seen) (o : OpT ℕ) → shape.stays (reused_op k o) ≡ shape.stays o
-kept_op k o = each_reused (λ o p. shape.stays p ≡ shape.stays o) k (λ o. refl) (λ o t a b q e. refl) o
+kept_op k o = each_reused (λ o p. shape.stays p ≡ shape.stays o) k (λ o. refl) (λ o t a b q e. refl) (λ t p n q e. refl) o
 
 same_skeleton : (k : Seen) (c : NodesT ℕ) → skeleton (reused k c) ≡ skeleton c
 same_skeleton k Stop = refl
@@ -83,7 +84,7 @@ module _ (Q : ℕ → Type 0) where
   abbrev Named : OpT ℕ → Type 0
   Named o = AllOf Q (uses o) × AllOf Q (maybe (target o))
 
-  found_named : (ms : Results) (o : Two) (x y : Operand) (q : ℕ) → AreNamed ms → result_in ms o x y ≡ Some q → Q q
+  found_named : (ms : Results) (o : Maker) (x y : Operand) (q : ℕ) → AreNamed ms → result_in ms o x y ≡ Some q → Q q
   found_named [] o x y q h e = absurd cc
   found_named (m ∷ ms) o x y q h e = go (λ f. found_named ms o x y q h.1 f) (is_made_by m o x y) e
     where
@@ -92,14 +93,15 @@ module _ (Q : ℕ → Type 0) where
       go r false f = r f
 
   result_named : (ms : Results) (m : Made) (q : ℕ) → AreNamed ms → result_of ms m ≡ Some q → Q q
-  result_named ms m q h e = go (is_worth m.by m.first m.second) e
+  result_named ms m q h e = go (is_worth ms m.by m.first m.second) e
     where
       go : (b : Bool) → cond b (result_in ms m.by m.first m.second) None ≡ Some q → Q q
       go true f = found_named ms m.by m.first m.second q h f
       go false f = absurd cc
 
   op_named : (k : Seen) (o : OpT ℕ) → AreNamed k.1 → Named o → Named (reused_op k o)
-  op_named k o h = each_reused (λ o p. Named o → Named p) k (λ o n. n) (λ o t a b q e n. ((result_named k.1 (made k.0 o t a b) q h e, tt), n.1)) o
+  op_named k o h = each_reused (λ o p. Named o → Named p) k (λ o n. n) (λ o t a b q e n. ((result_named k.1 (made k.0 (Operator o) t a b) q h e, tt), n.1))
+      (λ t p n q e m. ((result_named k.1 (made k.0 Step t p n) q h e, tt), m.1)) o
 
   named_behind : (ms : Results) (t : ℕ) → AreNamed ms → AreNamed (results_behind ms t)
   named_behind [] t h = tt
@@ -115,7 +117,7 @@ module _ (Q : ℕ → Type 0) where
   first_named (suc n) (m ∷ ms) h = (h.0, first_named n ms h.1)
 
   named_with : (ms : Results) (m : Made) → AreNamed ms → Q m.target → AreNamed (with_result ms m)
-  named_with ms m h q = go (is_kept m)
+  named_with ms m h q = go (is_kept ms m)
     where
       go : (b : Bool) → AreNamed (cond b (m ∷ take (min (length ms) 7) ms) ms)
       go true = (q, first_named (min (length ms) 7) ms h)
@@ -126,12 +128,12 @@ module _ (Q : ℕ → Type 0) where
   seen_named k (NullO t) h e = named_behind k.1 t h
   seen_named k (MoveO t a) h e = named_behind k.1 t h
   seen_named k (OneO o t a) h e = named_behind k.1 t h
-  seen_named k (TwoO o t a b) h e = named_with (results_behind k.1 t) (made k.0 o t a b) (named_behind k.1 t h) e.1.0
+  seen_named k (TwoO o t a b) h e = named_with (results_behind k.1 t) (made k.0 (Operator o) t a b) (named_behind k.1 t h) e.1.0
   seen_named k (GlobalO t n) h e = named_behind k.1 t h
   seen_named k (LocalO t n) h e = named_behind k.1 t h
   seen_named k (LiteralO t n) h e = named_behind k.1 t h
   seen_named k (CardO t) h e = named_behind k.1 t h
-  seen_named k (StepO t p n) h e = named_behind k.1 t h
+  seen_named k (StepO t p n) h e = named_with (results_behind k.1 t) (made k.0 Step t p n) (named_behind k.1 t h) e.1.0
   seen_named k (ApartO t p q) h e = named_behind k.1 t h
   seen_named k (PtrTestO o t p q) h e = named_behind k.1 t h
   seen_named k (LoadO t p) h e = named_behind k.1 t h
@@ -177,7 +179,7 @@ module _ (x : CodeT ℕ) where
   y = reused_code x
 
   op_ok : (m : ℕ) (k : Seen) (o : OpT ℕ) → IsOp x m o → IsOp y m (reused_op k o)
-  op_ok m k o h = each_reused (λ o p. IsOp x m o → IsOp y m p) k (λ o h. same_ok o h) (λ o t a b q e h. tt) o h
+  op_ok m k o h = each_reused (λ o p. IsOp x m o → IsOp y m p) k (λ o h. same_ok o h) (λ o t a b q e h. tt) (λ t p n q e h. tt) o h
     where
       same_ok : (o : OpT ℕ) → IsOp x m o → IsOp y m o
       same_ok (ConstO t n) h = h

@@ -79,9 +79,9 @@ fn reuse_functions(
     Ok(())
 }
 
-/// The code in which an operator that made the same word of the same operands, in the operations right before it, is a move of the temporary that has that
-/// word still. A sum or difference with a known word stays, as does a division, a comparison and every block, loop, choice and call. The error is want of
-/// memory, and then the code given is dropped.
+/// The code in which an operator or a step that was made of the same operands before, in the operations right before it, is a move of the temporary that has
+/// the result still. A sum or difference with a known word stays, as does a division, a comparison, a step by a known word and every block, loop, choice and
+/// call. The error is want of memory, and then the code given is dropped.
 pub fn reuse_results(alloc: Global, m: Mid) -> Result<Mid, Memory>
     ensures reused { IfOk result (λ r. IsFoldedFrom (mid m) (mid r)) }
 {

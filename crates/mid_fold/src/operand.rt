@@ -1,17 +1,18 @@
 // Operands, as far as they are known.
 ghost use Rattle.std.specs.Prelude.{◌≡◌, OnOk};
-ghost use Rattle.mid_fold.specs.inner.Reusing.{operand_in, is_same, is_cell, are_cells, operands_behind, with_operand};
+ghost use Rattle.mid_fold.specs.inner.Reusing.{operand_in, is_same, is_cell, is_some_cell, operands_behind, with_operand};
 
 use kit_base::Memory;
 
-/// A word, or the cell of a temporary.
+/// A word, the address of a global, or the cell of a temporary.
 #[derive(Clone, Copy)]
 pub(crate) enum Operand {
     Word(u32),
+    Address(u32),
     Cell(u32),
 }
 
-/// Temporaries that have a word, or what another temporary has, the latest first.
+/// Temporaries that have a word, the address of a global, or what another temporary has, the latest first.
 pub(crate) type Operands = Vec<(u32, Operand)>;
 
 pub(crate) fn is_same(x: Operand, y: Operand) -> bool
@@ -19,6 +20,7 @@ pub(crate) fn is_same(x: Operand, y: Operand) -> bool
 {
     match (x, y) {
         (Operand::Word(a), Operand::Word(b)) => a == b,
+        (Operand::Address(a), Operand::Address(b)) => a == b,
         (Operand::Cell(a), Operand::Cell(b)) => a == b,
         _ => false,
     }
@@ -30,16 +32,18 @@ pub(crate) fn is_cell(x: Operand, t: u32) -> bool
 {
     match x {
         Operand::Word(_) => false,
+        Operand::Address(_) => false,
         Operand::Cell(q) => q == t,
     }
 }
 
-pub(crate) fn are_cells(x: Operand, y: Operand) -> bool
-    ensures { result ≡ are_cells x y }
+pub(crate) fn is_some_cell(x: Operand) -> bool
+    ensures { result ≡ is_some_cell x }
 {
-    match (x, y) {
-        (Operand::Cell(_), Operand::Cell(_)) => true,
-        _ => false,
+    match x {
+        Operand::Word(_) => false,
+        Operand::Address(_) => false,
+        Operand::Cell(_) => true,
     }
 }
 

@@ -4,12 +4,11 @@ ghost use Rattle.mid_code.specs.Functions.{node};
 ghost use Rattle.mid_fold.specs.inner.Reusing.{nothing_seen, operands_behind, results_behind, with_operand, with_result, made, behind_maybe};
 ghost use Rattle.mid_fold.specs.inner.ReusingListed.{seen, op_reused, op_seen, node_seen, or_move};
 
-use crate::made::{Made, Results, forget_results, know_result, result_of};
+use crate::made::{Made, Maker, Results, forget_results, know_result, result_of};
 use crate::operand::{Operand, Operands, forget_operands, know_operand, operand_in};
 use kit_base::Memory;
 use mid_code::{Node, Op};
 use std::alloc::Global;
-use v32_isa::Two;
 
 /// What temporaries have.
 #[derive(Drop)]
@@ -43,12 +42,12 @@ pub(crate) fn clear_known(known: &mut Known)
     known.results.clear();
 }
 
-fn made(known: &Known, o: Two, t: u32, a: u32, b: u32) -> Made
-    ensures { result ≡ made known.now.operands.items o t a b }
+fn made(known: &Known, by: Maker, t: u32, a: u32, b: u32) -> Made
+    ensures { result ≡ made known.now.operands.items by t a b }
 {
     Made {
         target: t,
-        by: o,
+        by,
         first: operand_in(known.operands.as_slice(), a),
         second: operand_in(known.operands.as_slice(), b),
     }
@@ -62,14 +61,21 @@ fn put_move(t: u32, o: &mut Op<u32>, q: Option<u32>)
     }
 }
 
-/// Puts in the place of an operator the move of a temporary that has its result.
+/// Puts in the place of an operator or a step the move of a temporary that has its result.
 pub(crate) fn reuse_op(known: &Known, o: &mut Op<u32>)
     ensures { o.new ≡ op_reused (seen known.now) o.old }
 {
     match o {
         Op::Two(by, t, a, b) => {
             let t = *t;
-            let found = result_of(known.results.as_slice(), made(known, *by, t, *a, *b));
+            let m = made(known, Maker::Operator(*by), t, *a, *b);
+            let found = result_of(known.results.as_slice(), m);
+            put_move(t, o, found);
+        }
+        Op::Step(t, p, n) => {
+            let t = *t;
+            let m = made(known, Maker::Step, t, *p, *n);
+            let found = result_of(known.results.as_slice(), m);
             put_move(t, o, found);
         }
         _ => {}
@@ -108,12 +114,17 @@ fn see_op(known: &mut Known, o: &Op<u32>) -> Result<(), Memory>
 {
     match o {
         Op::Const(t, word) => know_as(known, *t, Operand::Word(*word)),
+        Op::Global(t, number) => know_as(known, *t, Operand::Address(*number)),
         Op::Move(t, a) => {
             let x = operand_in(known.operands.as_slice(), *a);
             know_as(known, *t, x)
         }
         Op::Two(by, t, a, b) => {
-            let m = made(known, *by, *t, *a, *b);
+            let m = made(known, Maker::Operator(*by), *t, *a, *b);
+            know_made(known, m)
+        }
+        Op::Step(t, p, n) => {
+            let m = made(known, Maker::Step, *t, *p, *n);
             know_made(known, m)
         }
         Op::Call(_, _, _) => {

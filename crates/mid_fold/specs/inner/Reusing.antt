@@ -1,21 +1,24 @@
--- Common subexpressions: an operator on words that a temporary has the result of, for the same operands, becomes a move of that temporary.
+-- Common subexpressions: an operator on words, or a step of a pointer, that a temporary has the result of, for the same operands, becomes a move of that
+-- temporary.
 use Rattle.std.specs.Prelude.{ℕ, Bool, true, false, not, eqb, cond, ◌&&◌, ◌||◌, min, take, length, List, [], ◌∷◌, map, Option, Some, None}
 use denote.Enum.Bare.{sameb}
 use Rattle.v32_isa.specs.contracts.instruction.Two.{the_type}
 use Rattle.v32_isa.specs.declared.instruction.Two.{Two}
 use Rattle.v32_isa.specs.declared.instruction.Two.TheVariants.{AND, OR, XOR, SHL, IADD, ISUB, IMUL}
-use Rattle.mid_code.specs.Code.{OpT, ConstO, MoveO, TwoO, NodesT, Stop, Do, Call, Choose, Block, Loop, Leave, Again, Return, FunctionT, CodeT, target}
+use Rattle.mid_code.specs.Code.{OpT, ConstO, MoveO, TwoO, GlobalO, StepO, NodesT, Stop, Do, Call, Choose, Block, Loop, Leave, Again, Return, FunctionT, CodeT, target}
 use Rattle.mid_fold.specs.declared.operand.Operand.{Operand}
-use Rattle.mid_fold.specs.declared.operand.Operand.TheVariants.{Word, Cell}
+use Rattle.mid_fold.specs.declared.operand.Operand.TheVariants.{Word, Address, Cell}
+use Rattle.mid_fold.specs.declared.made.Maker.{Maker}
+use Rattle.mid_fold.specs.declared.made.Maker.TheVariants.{Operator, Step}
 use Rattle.mid_fold.specs.declared.made.Made.{Made}
 
 -- ---- what is known at a point
 
--- temporaries that have a word, or what another temporary has, the latest first
+-- temporaries that have a word, the address of a global, or what another temporary has, the latest first
 abbrev pub Operands : Type 0
 Operands = List (ℕ × Operand)
 
--- temporaries that have what an operator made, the latest first
+-- temporaries that have what an operator or a step made, the latest first
 abbrev pub Results : Type 0
 Results = List Made
 
@@ -31,16 +34,22 @@ operand_in (e ∷ es) q = cond (eqb e.0 q) e.1 (operand_in es q)
 
 abbrev pub is_same : Operand → Operand → Bool
 is_same (Word a) (Word b) = eqb a b
+is_same (Address a) (Address b) = eqb a b
 is_same (Cell a) (Cell b) = eqb a b
 is_same _ _ = false
 
 abbrev pub is_same_operator : Two → Two → Bool
 is_same_operator = sameb the_type
 
-abbrev pub is_made_by : Made → Two → Operand → Operand → Bool
-is_made_by m o x y = is_same_operator m.by o && (is_same m.first x && is_same m.second y)
+abbrev pub is_same_maker : Maker → Maker → Bool
+is_same_maker (Operator a) (Operator b) = is_same_operator a b
+is_same_maker Step Step = true
+is_same_maker _ _ = false
 
-abbrev pub result_in : Results → Two → Operand → Operand → Option ℕ
+abbrev pub is_made_by : Made → Maker → Operand → Operand → Bool
+is_made_by m o x y = is_same_maker m.by o && (is_same m.first x && is_same m.second y)
+
+abbrev pub result_in : Results → Maker → Operand → Operand → Option ℕ
 result_in [] o x y = None
 result_in (m ∷ ms) o x y = cond (is_made_by m o x y) (Some m.target) (result_in ms o x y)
 
@@ -48,6 +57,7 @@ result_in (m ∷ ms) o x y = cond (is_made_by m o x y) (Some m.target) (result_i
 
 abbrev pub is_cell : Operand → ℕ → Bool
 is_cell (Word w) t = false
+is_cell (Address n) t = false
 is_cell (Cell q) t = eqb q t
 
 abbrev pub operands_behind : Operands → ℕ → Operands
@@ -71,35 +81,59 @@ behind_maybe k (Some t) = behind k t
 abbrev pub with_operand : Operands → ℕ → Operand → Operands
 with_operand es t x = cond (is_cell x t) es ((t, x) ∷ take (min (length es) 3) es)
 
-abbrev pub are_cells : Operand → Operand → Bool
-are_cells (Cell p) (Cell q) = true
-are_cells _ _ = false
+abbrev pub is_some_cell : Operand → Bool
+is_some_cell (Cell q) = true
+is_some_cell _ = false
+
+-- what made that which an operand has, where it is known
+abbrev pub maker_in : Results → Operand → Option Maker
+maker_in [] x = None
+maker_in (m ∷ ms) x = cond (is_cell x m.target) (Some m.by) (maker_in ms x)
+
+abbrev pub is_product : Option Maker → Bool
+is_product (Some (Operator IMUL)) = true
+is_product _ = false
+
+abbrev pub is_step : Option Maker → Bool
+is_step (Some Step) = true
+is_step _ = false
 
 -- The operators whose result is kept. A sum with a known word is one instruction, as the move would be.
-abbrev pub is_worth : Two → Operand → Operand → Bool
-is_worth AND x y = true
-is_worth OR x y = true
-is_worth XOR x y = true
-is_worth SHL x y = true
-is_worth IMUL x y = true
-is_worth IADD x y = are_cells x y
-is_worth ISUB x y = are_cells x y
-is_worth _ x y = false
+abbrev pub is_operator_worth : Two → Operand → Operand → Bool
+is_operator_worth AND x y = true
+is_operator_worth OR x y = true
+is_operator_worth XOR x y = true
+is_operator_worth SHL x y = true
+is_operator_worth IMUL x y = true
+is_operator_worth IADD x y = is_some_cell x && is_some_cell y
+is_operator_worth ISUB x y = is_some_cell x && is_some_cell y
+is_operator_worth _ x y = false
 
-abbrev pub is_kept : Made → Bool
-is_kept m = is_worth m.by m.first m.second && not (is_cell m.first m.target || is_cell m.second m.target)
+-- The steps whose result is kept: to an element of more than one word, and from there to one by a number that is not known. The step to a member goes into
+-- the load or store behind it, as that to an element of one word does.
+abbrev pub is_step_worth : Results → Operand → Operand → Bool
+is_step_worth ms x y = is_some_cell y && (is_product (maker_in ms y) || is_step (maker_in ms x))
 
--- what an operator made; at most seven others are kept
+abbrev pub is_worth : Results → Maker → Operand → Operand → Bool
+is_worth ms (Operator o) x y = is_operator_worth o x y
+is_worth ms Step x y = is_step_worth ms x y
+
+abbrev pub is_kept : Results → Made → Bool
+is_kept ms m = is_worth ms m.by m.first m.second && not (is_cell m.first m.target || is_cell m.second m.target)
+
+-- what was made; at most seven others are kept
 abbrev pub with_result : Results → Made → Results
-with_result ms m = cond (is_kept m) (m ∷ take (min (length ms) 7) ms) ms
+with_result ms m = cond (is_kept ms m) (m ∷ take (min (length ms) 7) ms) ms
 
-abbrev pub made : Operands → Two → (t a b : ℕ) → Made
+abbrev pub made : Operands → Maker → (t a b : ℕ) → Made
 made es o t a b = record { target = t; by = o; first = operand_in es a; second = operand_in es b }
 
 abbrev pub seen_behind : Seen → OpT ℕ → Seen
 seen_behind k (ConstO t word) = (with_operand (operands_behind k.0 t) t (Word word), results_behind k.1 t)
 seen_behind k (MoveO t a) = (with_operand (operands_behind k.0 t) t (operand_in k.0 a), results_behind k.1 t)
-seen_behind k (TwoO o t a b) = (operands_behind k.0 t, with_result (results_behind k.1 t) (made k.0 o t a b))
+seen_behind k (GlobalO t number) = (with_operand (operands_behind k.0 t) t (Address number), results_behind k.1 t)
+seen_behind k (TwoO o t a b) = (operands_behind k.0 t, with_result (results_behind k.1 t) (made k.0 (Operator o) t a b))
+seen_behind k (StepO t p n) = (operands_behind k.0 t, with_result (results_behind k.1 t) (made k.0 Step t p n))
 seen_behind k o = behind_maybe k (target o)
 
 -- ---- code
@@ -108,12 +142,13 @@ abbrev pub moved_or : ℕ → OpT ℕ → Option ℕ → OpT ℕ
 moved_or t o None = o
 moved_or t o (Some q) = MoveO t q
 
--- the temporary that has the result of an operator
+-- the temporary that has the result
 abbrev pub result_of : Results → Made → Option ℕ
-result_of ms m = cond (is_worth m.by m.first m.second) (result_in ms m.by m.first m.second) None
+result_of ms m = cond (is_worth ms m.by m.first m.second) (result_in ms m.by m.first m.second) None
 
 abbrev pub reused_op : Seen → OpT ℕ → OpT ℕ
-reused_op k (TwoO o t a b) = moved_or t (TwoO o t a b) (result_of k.1 (made k.0 o t a b))
+reused_op k (TwoO o t a b) = moved_or t (TwoO o t a b) (result_of k.1 (made k.0 (Operator o) t a b))
+reused_op k (StepO t p n) = moved_or t (StepO t p n) (result_of k.1 (made k.0 Step t p n))
 reused_op k o = o
 
 -- A choice and a block begin with what is known before them, a loop with nothing; behind each of them, and behind a call, nothing is known.

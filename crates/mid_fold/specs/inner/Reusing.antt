@@ -5,7 +5,8 @@ use denote.Enum.Bare.{sameb}
 use Rattle.v32_isa.specs.contracts.instruction.Two.{the_type}
 use Rattle.v32_isa.specs.declared.instruction.Two.{Two}
 use Rattle.v32_isa.specs.declared.instruction.Two.TheVariants.{AND, OR, XOR, SHL, IADD, ISUB, IMUL}
-use Rattle.mid_code.specs.Code.{OpT, ConstO, MoveO, TwoO, GlobalO, StepO, NodesT, Stop, Do, Call, Choose, Block, Loop, Leave, Again, Return, FunctionT, CodeT, target}
+use Rattle.mid_code.specs.Code.{OpT, ConstO, MoveO, TwoO, GlobalO, StepO, FunctionT, CodeT, target}
+use Rattle.mid_code.specs.Code.{NodesT, Stop, Do, Call, Choose, Block, Loop, Leave, Again, Return}
 use Rattle.mid_fold.specs.declared.operand.Operand.{Operand}
 use Rattle.mid_fold.specs.declared.operand.Operand.TheVariants.{Word, Address, Cell}
 use Rattle.mid_fold.specs.declared.made.Maker.{Maker}

@@ -36,6 +36,15 @@ fn sweep_and_forward(alloc: Global, m: Mid) -> Result<Mid, Memory>
     Ok(forward)
 }
 
+/// The code of the first round. Whether there is anything to sweep is not asked before it: in code that was just lowered or promoted there mostly is.
+fn first_round(alloc: Global, m: Mid) -> Result<Mid, Memory>
+    ensures { IfOk result (λ r. IsForwarded (mid m) (mid r)) }
+{
+    let forward = fold_and_forward(alloc, m)?;
+    let swept = sweep_and_forward(alloc, forward)?;
+    Ok(swept)
+}
+
 /// The settled code: operators on known words are worked out, what an operator made of the same operands is moved, what is moved at once is put where it is
 /// moved, copies are used as what they are copies of, and what only puts something where nothing reads it is taken out, in rounds. Runs are kept, in no more work; one that strays may go on. Loads, stores, calls,
 /// loops, port operations and what makes or ends a local stay. The error is want of memory, and then the code given is dropped.
@@ -43,7 +52,7 @@ fn sweep_and_forward(alloc: Global, m: Mid) -> Result<Mid, Memory>
 pub fn improve(alloc: Global, m: Mid) -> Result<Mid, Memory>
     ensures improved { IfOk result (λ r. IsImprovedFrom (mid m) (mid r)) }
 {
-    let mut now = fold_and_forward(alloc, m)?;
+    let mut now = first_round(alloc, m)?;
     let mut settled = is_swept(alloc, &now)?;
     'rounds: while !settled {
         now = sweep_and_forward(alloc, now)?;

@@ -62,12 +62,20 @@ fn place_of_param(
     }
 }
 
-/// Moves parameters to the places of the locals that take them, in at most 64 operations at the front of the nodes.
-pub(crate) fn merge_params(single: &[bool], at: &mut [Where], params: &[u32], ns: &[Node<u32>]) {
+/// Moves parameters to the places of the locals that take them, in at most 64 operations at the front of the nodes. The answer is whether any was moved.
+pub(crate) fn merge_params(
+    single: &[bool],
+    at: &mut [Where],
+    params: &[u32],
+    ns: &[Node<u32>],
+) -> bool {
+    let mut merged = false;
     for i in 0..64 {
-        let Some(o) = op_at(ns, i) else { return };
+        let Some(o) = op_at(ns, i) else { break };
         if let Some((a, to)) = place_of_param(single, at, params, ns, i, o) {
             put(at, a, to);
+            merged = true;
         }
     }
+    merged
 }

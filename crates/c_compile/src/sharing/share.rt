@@ -65,20 +65,28 @@ fn merged(
     })
 }
 
-/// The choice in which parameters, too, stand at the places of the locals that take them. It is tested as well.
-fn entered(alloc: Global, f: &Function<u32>, given: &[Where]) -> Result<Choice, Memory> {
+/// The choice in which parameters, too, stand at the places of the locals that take them, where there are such. It is tested as well.
+fn entered(
+    alloc: Global,
+    f: &Function<u32>,
+    given: &[Where],
+) -> Result<Option<Choice>, Memory> {
     let counts = counts(alloc, f)?;
     let single = singles(alloc, counts.as_slice())?;
     let mut at = given.to_vec(alloc)?;
-    merge_params(
+    let merged = merge_params(
         single.as_slice(),
         at.as_mut_slice(),
         f.params.as_slice(),
         f.body.as_slice(),
     );
-    Ok(Choice {
-        at: Seq::from_vec(at),
-    })
+    if merged {
+        Ok(Some(Choice {
+            at: Seq::from_vec(at),
+        }))
+    } else {
+        Ok(None)
+    }
 }
 
 /// Whether another choice may be taken in the place of the given one: it is safe, and has no slot where that has none.
@@ -101,7 +109,12 @@ fn share_entry(alloc: Global, f: &Function<u32>, given: Choice) -> Result<Choice
     ensures safe { IfOk result (λ c. IsSafe (function f.now) c.at) }
     ensures spares { IfOk result (λ c. SparesSlots (function f.now) c.at) }
 {
-    let other = entered(alloc, f, given.at.as_slice())?;
+    if f.params.as_slice().is_empty() {
+        return Ok(given);
+    }
+    let Some(other) = entered(alloc, f, given.at.as_slice())? else {
+        return Ok(given);
+    };
     if serves(alloc, f, given.at.as_slice(), &other)? {
         Ok(other)
     } else {

@@ -1,82 +1,98 @@
--- What is appended piece by piece for an expression is what is told of its form.
-use Rattle.std.proofs.Common.{◌≡◌, ℕ, ◌+◌, arith, length-append, Bool, false, List, [], ◌∷◌, ◌++◌, length, Some, None, sym, ap, ◌∙◌, subst, append_assoc}
-use Rattle.std.specs.Prelude.{Result, OnOk, IfOk, Ok, Err}
+-- What is added operand by operand for an expression is what is told of its form.
+use Rattle.std.proofs.Common.{◌≡◌, ℕ, ◌+◌, arith, Bool, false, List, [], ◌∷◌, ◌++◌, length, Some, None, refl, sym, ap, ◌∙◌, subst, append_assoc}
+use Rattle.std.specs.Prelude.{Result, OnOk, Ok, Err}
 use Rattle.c_tree.specs.declared.operator.BinOp.{BinOp}
 use Rattle.c_types.specs.Types.{Ty}
 use Rattle.c_types.specs.Typed.{TExprT, TKindT, BinaryK, AssignK, IndexK}
 use Rattle.c_meaning.specs.Kinds.{type_of}
 use Rattle.mid_code.specs.declared.node.Op.TheVariants as o
 use Rattle.mid_code.specs.Functions.{DoN}
+use Rattle.lower_trees.specs.declared.output.Output.{Output}
 use Rattle.lower_trees.specs.Shape.{Shape, words}
 use Rattle.lower_trees.specs.Flags.{is_flag, tests_flag}
-use Rattle.lower_trees.specs.Counts.{sizes, sizes_of}
-use Rattle.lower_trees.specs.Pieces.{Listing, listing}
+use Rattle.lower_trees.specs.Counts.{temps, value_temps, temps_of, size_temps, sizes, value_sizes, sizes_of}
+use Rattle.lower_trees.specs.Pieces.{listing, ◌▸◌, DoP}
 use Rattle.lower_trees.specs.Parts.{as_flag, converted, stored, stepped, operated}
-use Rattle.lower_trees.specs.Expressions.{second, beyond, size_at, behind_place, low, low_kind, low_value, low_test, lazy_of, binary_by}
-use Rattle.lower_trees.specs.inner.Enclosed.{lazy_choice}
-use Rattle.lower_trees.proofs.Joins.{joined_twice}
+use Rattle.lower_trees.specs.Expressions.{second, beyond, behind_place, low, low_kind, low_value, low_test, lazy_of, lazy_choice, binary_by}
+use Rattle.lower_trees.specs.inner.Adding.{AddsNodes}
+use Rattle.lower_trees.proofs.Adding.{then_more}
 
 -- what holds of what was done, where it was done
 pub on_ok : {A B : Type 0} {P Q : Type 0} (r : Result A B) → (P → Q) → OnOk r P → OnOk r Q
 on_ok (Ok a) f p = f p
 on_ok (Err b) f p = p
 
-pub if_ok : {A B : Type 0} {P Q : A → Type 0} (r : Result A B) → ((a : A) → P a → Q a) → IfOk r P → IfOk r Q
-if_ok (Ok a) f p = f a p
-if_ok (Err b) f p = p
-
-four : {A : Type 0} (l a b c d : List A) → l ++ a ++ b ++ c ++ d ≡ l ++ (a ++ b ++ c ++ d)
-four l a b c d = ap (λ z. z ++ c ++ d) (append_assoc l a b) ∙ ap (λ z. z ++ d) (append_assoc l (a ++ b) c) ∙ append_assoc l (a ++ b ++ c) d
-
-six : {A : Type 0} (l a b c d e f : List A) → l ++ a ++ b ++ c ++ d ++ e ++ f ≡ l ++ (a ++ b ++ c ++ d ++ e ++ f)
-six l a b c d e f = ap (λ z. z ++ e ++ f) (four l a b c d) ∙ ap (λ z. z ++ f) (append_assoc l (a ++ b ++ c ++ d) e) ∙ append_assoc l (a ++ b ++ c ++ d ++ e) f
-
 three : {A : Type 0} (l a b c : List A) → l ++ a ++ b ++ c ≡ l ++ (a ++ b ++ c)
 three l a b c = ap (λ z. z ++ c) (append_assoc l a b) ∙ append_assoc l (a ++ b) c
 
-pub index_nodes : (h : Shape) (k : TKindT) (x y : TExprT) (ty : Ty) (t n m w u v : ℕ) (l p q : Listing) → k ≡ IndexK x y → w ≡ n → u ≡ second x n → v ≡ beyond h x m
-    → p ≡ l ++ listing (low_value h x n (n + 1) m) → q ≡ p ++ listing (low_value h y u (u + 1) v) ++ listing (stepped (words h ty) t w u (second y u)) → q ≡ l ++ listing (low_kind h k ty t n m)
-index_nodes h k x y ty t n m w u v l p q e ew eu ev a b =
-    subst (λ z. q ≡ l ++ listing (low_kind h z ty t n m)) (sym e)
-    (b ∙ (λ i. a i ++ listing (low_value h y (eu i) (eu i + 1) (ev i)) ++ listing (stepped (words h ty) t (ew i) (eu i) (second y (eu i))))
-    ∙ three l (listing (low_value h x n (n + 1) m)) (listing (low_value h y (second x n) (second x n + 1) (beyond h x m))) (listing (stepped (words h ty) t n (second x n) (size_at x y n))))
+five : {A : Type 0} (l a b c d e : List A) → l ++ a ++ b ++ c ++ d ++ e ≡ l ++ (a ++ b ++ c ++ d ++ e)
+five l a b c d e = ap (λ z. z ++ d ++ e) (three l a b c) ∙ ap (λ z. z ++ e) (append_assoc l (a ++ b ++ c) d) ∙ append_assoc l (a ++ b ++ c ++ d) e
 
-pub binary_nodes : (h : Shape) (k : TKindT) (op : BinOp) (x y : TExprT) (of ty : Ty) (t n m w u v : ℕ) (l p q : Listing) → k ≡ BinaryK op x y → lazy_of op ≡ None → of ≡ type_of x → w ≡ n → u ≡ second x n → v ≡ beyond h x m
-    → p ≡ l ++ listing (low_value h x n (n + 1) m) → q ≡ p ++ listing (low_value h y u (u + 1) v) ++ listing (operated h op of (type_of y) t w u (second y u)) → q ≡ l ++ listing (low_kind h k ty t n m)
-binary_nodes h k op x y of ty t n m w u v l p q e none ex ew eu ev a b =
-    let all : q ≡ l ++ listing (binary_by None h op x y (low h x) (low h y) t n m) =
-    b ∙ (λ i. a i ++ listing (low_value h y (eu i) (eu i + 1) (ev i)) ++ listing (operated h op (ex i) (type_of y) t (ew i) (eu i) (second y (eu i))))
-    ∙ three l (listing (low_value h x n (n + 1) m)) (listing (low_value h y (second x n) (second x n + 1) (beyond h x m))) (listing (operated h op (type_of x) (type_of y) t n (second x n) (size_at x y n))) in
-    subst (λ z. q ≡ l ++ listing (low_kind h z ty t n m)) (sym e) (subst (λ z. q ≡ l ++ listing (binary_by z h op x y (low h x) (low h y) t n m)) (sym none) all)
+pub index_adds : (h : Shape) (k : TKindT) (x y : TExprT) (ty : Ty) (t w : ℕ) (old mid new : Output) → k ≡ IndexK x y → w ≡ old.next
+    → AddsNodes old mid (λ n m. listing (low_value h x n (n + 1) m)) (value_temps x + 1) (value_sizes h x)
+    → AddsNodes mid new (λ n m. listing (low_value h y n (n + 1) m ▸ stepped (words h ty) t w n (second y n))) (value_temps y + 1 + size_temps ty) (value_sizes h y)
+    → AddsNodes old new (λ n m. listing (low_kind h k ty t n m)) (temps_of k ty) (sizes_of h k)
+index_adds h k x y ty t w old mid new e ew p q =
+    let n = old.next in
+    let m = length old.locals.items in
+    let u : n + (value_temps x + 1) ≡ second x n = omega arith in
+    let count : value_temps x + 1 + (value_temps y + 1 + size_temps ty) ≡ temps_of (IndexK x y) ty = omega arith in
+    subst (λ z. AddsNodes old new (λ n m. listing (low_kind h z ty t n m)) (temps_of z ty) (sizes_of h z)) (sym e) (then_more p q count refl
+    ((λ i. listing (low_value h x n (n + 1) m) ++ (listing (low_value h y (u i) (u i + 1) (beyond h x m)) ++ listing (stepped (words h ty) t (ew i) (u i) (second y (u i)))))
+    ∙ sym (append_assoc (listing (low_value h x n (n + 1) m)) (listing (low_value h y (second x n) (second x n + 1) (beyond h x m))) (listing (stepped (words h ty) t n (second x n) (second y (second x n)))))))
 
-pub lazy_nodes : (h : Shape) (k : TKindT) (op : BinOp) (and : Bool) (x y : TExprT) (ty : Ty) (t n m u v : ℕ) (l p q : Listing) → k ≡ BinaryK op x y → lazy_of op ≡ Some and → u + 1 ≡ second x n → v ≡ beyond h x m
-    → p ≡ l ++ listing (low_test h x t n m) → q ≡ p ++ (lazy_choice and t (listing (low_test h y t (u + 1) v) ++ listing (as_flag (tests_flag y) t))) → q ≡ l ++ listing (low_kind h k ty t n m)
-lazy_nodes h k op and x y ty t n m u v l p q e some eu ev a b =
-    let all : q ≡ l ++ listing (binary_by (Some and) h op x y (low h x) (low h y) t n m) =
-    b ∙ (λ i. a i ++ (lazy_choice and t (listing (low_test h y t (eu i) (ev i)) ++ listing (as_flag (tests_flag y) t))))
-    ∙ append_assoc l (listing (low_test h x t n m)) (lazy_choice and t (listing (low_test h y t (second x n) (beyond h x m)) ++ listing (as_flag (tests_flag y) t))) in
-    subst (λ z. q ≡ l ++ listing (low_kind h z ty t n m)) (sym e) (subst (λ z. q ≡ l ++ listing (binary_by z h op x y (low h x) (low h y) t n m)) (sym some) all)
+pub binary_adds : (h : Shape) (k : TKindT) (op : BinOp) (x y : TExprT) (of ty : Ty) (t w : ℕ) (old mid new : Output) → k ≡ BinaryK op x y → lazy_of op ≡ None → of ≡ type_of x → w ≡ old.next
+    → AddsNodes old mid (λ n m. listing (low_value h x n (n + 1) m)) (value_temps x + 1) (value_sizes h x)
+    → AddsNodes mid new (λ n m. listing (low_value h y n (n + 1) m ▸ operated h op of (type_of y) t w n (second y n))) (value_temps y + 2) (value_sizes h y)
+    → AddsNodes old new (λ n m. listing (low_kind h k ty t n m)) (temps_of k ty) (sizes_of h k)
+binary_adds h k op x y of ty t w old mid new e none ex ew p q =
+    let n = old.next in
+    let m = length old.locals.items in
+    let u : n + (value_temps x + 1) ≡ second x n = omega arith in
+    let count : value_temps x + 1 + (value_temps y + 2) ≡ temps_of (BinaryK op x y) ty = omega arith in
+    let all : AddsNodes old new (λ n m. listing (binary_by None h op x y (low h x) (low h y) t n m)) (temps_of (BinaryK op x y) ty) (sizes_of h (BinaryK op x y)) = then_more p q count refl
+    ((λ i. listing (low_value h x n (n + 1) m) ++ (listing (low_value h y (u i) (u i + 1) (beyond h x m)) ++ listing (operated h op (ex i) (type_of y) t (ew i) (u i) (second y (u i)))))
+    ∙ sym (append_assoc (listing (low_value h x n (n + 1) m)) (listing (low_value h y (second x n) (second x n + 1) (beyond h x m))) (listing (operated h op (type_of x) (type_of y) t n (second x n) (second y (second x n)))))) in
+    subst (λ z. AddsNodes old new (λ n m. listing (low_kind h z ty t n m)) (temps_of z ty) (sizes_of h z)) (sym e)
+    (subst (λ z. AddsNodes old new (λ n m. listing (binary_by z h op x y (low h x) (low h y) t n m)) (temps_of (BinaryK op x y) ty) (sizes_of h (BinaryK op x y))) (sym none) all)
 
-pub assign_nodes : (h : Shape) (k : TKindT) (x y : TExprT) (of ty : Ty) (t n m w u v : ℕ) (l p q : Listing) → k ≡ AssignK None x y → of ≡ type_of x → w ≡ n → u ≡ behind_place x n → v ≡ m + length (sizes h x)
-    → p ≡ l ++ listing (low h x n (n + 1) m) → q ≡ p ++ listing (low_value h y t (u + 2) v) ++ listing (converted of (is_flag y) t) ++ listing (stored h of w t) → q ≡ l ++ listing (low_kind h k ty t n m)
-assign_nodes h k x y of ty t n m w u v l p q e ex ew eu ev a b =
-    subst (λ z. q ≡ l ++ listing (low_kind h z ty t n m)) (sym e)
-    (b ∙ (λ i. a i ++ listing (low_value h y t (eu i + 2) (ev i)) ++ listing (converted (ex i) (is_flag y) t) ++ listing (stored h (ex i) (ew i) t))
-    ∙ four l (listing (low h x n (n + 1) m)) (listing (low_value h y t (behind_place x n + 2) (m + length (sizes h x)))) (listing (converted (type_of x) (is_flag y) t)) (listing (stored h (type_of x) n t)))
+pub lazy_adds : (h : Shape) (k : TKindT) (op : BinOp) (and : Bool) (x y : TExprT) (ty : Ty) (t : ℕ) (old mid new : Output) → k ≡ BinaryK op x y → lazy_of op ≡ Some and
+    → AddsNodes old mid (λ n m. listing (low_test h x t n m)) (value_temps x) (value_sizes h x)
+    → AddsNodes mid new (λ n m. listing (lazy_choice and t (low_test h y t (n + 1) m ▸ as_flag (tests_flag y) t))) (value_temps y + 3) (value_sizes h y)
+    → AddsNodes old new (λ n m. listing (low_kind h k ty t n m)) (temps_of k ty) (sizes_of h k)
+lazy_adds h k op and x y ty t old mid new e some p q =
+    let n = old.next in
+    let m = length old.locals.items in
+    let u : n + value_temps x + 1 ≡ second x n = omega arith in
+    let count : value_temps x + (value_temps y + 3) ≡ temps_of (BinaryK op x y) ty = omega arith in
+    let all : AddsNodes old new (λ n m. listing (binary_by (Some and) h op x y (low h x) (low h y) t n m)) (temps_of (BinaryK op x y) ty) (sizes_of h (BinaryK op x y)) = then_more p q count refl
+    (λ i. listing (low_test h x t n m) ++ listing (lazy_choice and t (low_test h y t (u i) (beyond h x m) ▸ as_flag (tests_flag y) t))) in
+    subst (λ z. AddsNodes old new (λ n m. listing (low_kind h z ty t n m)) (temps_of z ty) (sizes_of h z)) (sym e)
+    (subst (λ z. AddsNodes old new (λ n m. listing (binary_by z h op x y (low h x) (low h y) t n m)) (temps_of (BinaryK op x y) ty) (sizes_of h (BinaryK op x y))) (sym some) all)
 
-pub compound_nodes : (h : Shape) (k : TKindT) (op : BinOp) (x y : TExprT) (of ty : Ty) (t n m w u v : ℕ) (l p q : Listing) → k ≡ AssignK (Some op) x y → of ≡ type_of x → w ≡ n → u ≡ behind_place x n → v ≡ m + length (sizes h x)
-    → p ≡ l ++ listing (low h x n (n + 1) m)
-    → q ≡ p ++ listing (low_value h y u (u + 2) v) ++ (DoN (o.Load t w) ∷ []) ++ listing (operated h op of (type_of y) t t u (u + 1)) ++ listing (converted of false t) ++ (DoN (o.Store w t) ∷ []) → q ≡ l ++ listing (low_kind h k ty t n m)
-compound_nodes h k op x y of ty t n m w u v l p q e ex ew eu ev a b =
+pub assign_adds : (h : Shape) (k : TKindT) (x y : TExprT) (of ty : Ty) (t w : ℕ) (old mid new : Output) → k ≡ AssignK None x y → of ≡ type_of x → w ≡ old.next
+    → AddsNodes old mid (λ n m. listing (low h x n (n + 1) m)) (temps x + 1) (sizes h x)
+    → AddsNodes mid new (λ n m. listing (low_value h y t (n + 2) m ▸ converted of (is_flag y) t ▸ stored h of w t)) (value_temps y + 2) (value_sizes h y)
+    → AddsNodes old new (λ n m. listing (low_kind h k ty t n m)) (temps_of k ty) (sizes_of h k)
+assign_adds h k x y of ty t w old mid new e ex ew p q =
+    let n = old.next in
+    let m = length old.locals.items in
+    let u : n + (temps x + 1) ≡ behind_place x n = omega arith in
+    let count : temps x + 1 + (value_temps y + 2) ≡ temps_of (AssignK None x y) ty = omega arith in
+    subst (λ z. AddsNodes old new (λ n m. listing (low_kind h z ty t n m)) (temps_of z ty) (sizes_of h z)) (sym e) (then_more p q count refl
+    ((λ i. listing (low h x n (n + 1) m) ++ (listing (low_value h y t (u i + 2) (m + length (sizes h x))) ++ listing (converted (ex i) (is_flag y) t) ++ listing (stored h (ex i) (ew i) t)))
+    ∙ sym (three (listing (low h x n (n + 1) m)) (listing (low_value h y t (behind_place x n + 2) (m + length (sizes h x)))) (listing (converted (type_of x) (is_flag y) t)) (listing (stored h (type_of x) n t)))))
+
+pub compound_adds : (h : Shape) (k : TKindT) (op : BinOp) (x y : TExprT) (of ty : Ty) (t w : ℕ) (old mid new : Output) → k ≡ AssignK (Some op) x y → of ≡ type_of x → w ≡ old.next
+    → AddsNodes old mid (λ n m. listing (low h x n (n + 1) m)) (temps x + 1) (sizes h x)
+    → AddsNodes mid new (λ n m. listing (low_value h y n (n + 2) m ▸ DoP (o.Load t w) ▸ operated h op of (type_of y) t t n (n + 1) ▸ converted of false t ▸ DoP (o.Store w t))) (value_temps y + 2) (value_sizes h y)
+    → AddsNodes old new (λ n m. listing (low_kind h k ty t n m)) (temps_of k ty) (sizes_of h k)
+compound_adds h k op x y of ty t w old mid new e ex ew p q =
+    let n = old.next in
+    let m = length old.locals.items in
+    let u : n + (temps x + 1) ≡ behind_place x n = omega arith in
+    let count : temps x + 1 + (value_temps y + 2) ≡ temps_of (AssignK (Some op) x y) ty = omega arith in
     let from = behind_place x n in
-    subst (λ z. q ≡ l ++ listing (low_kind h z ty t n m)) (sym e)
-    (b ∙ (λ i. a i ++ listing (low_value h y (eu i) (eu i + 2) (ev i)) ++ (DoN (o.Load t (ew i)) ∷ []) ++ listing (operated h op (ex i) (type_of y) t t (eu i) (eu i + 1)) ++ listing (converted (ex i) false t) ++ (DoN (o.Store (ew i) t) ∷ []))
-    ∙ six l (listing (low h x n (n + 1) m)) (listing (low_value h y from (from + 2) (m + length (sizes h x)))) (DoN (o.Load t n) ∷ []) (listing (operated h op (type_of x) (type_of y) t t from (from + 1))) (listing (converted (type_of x) false t)) (DoN (o.Store n t) ∷ []))
-
--- ---- sizes
-
-pub joined_sizes : (h : Shape) (k : TKindT) (a b l p q : List ℕ) → sizes_of h k ≡ a ++ b → p ≡ l ++ a → q ≡ p ++ b → q ≡ l ++ sizes_of h k
-joined_sizes h k a b l p q e f g = joined_twice l p q a b f g ∙ ap (λ z. l ++ z) (sym e)
-
-pub joined_count : (h : Shape) (k : TKindT) (a b : List ℕ) (m v w : ℕ) → sizes_of h k ≡ a ++ b → v ≡ m + length a → w ≡ v + length b → w ≡ m + length (sizes_of h k)
-joined_count h k a b m v w e f g = let two = length-append a b in let all : w ≡ m + length (a ++ b) = omega (arith, two, f, g) in all ∙ ap (λ z. m + length z) (sym e)
+    subst (λ z. AddsNodes old new (λ n m. listing (low_kind h z ty t n m)) (temps_of z ty) (sizes_of h z)) (sym e) (then_more p q count refl
+    ((λ i. listing (low h x n (n + 1) m) ++ (listing (low_value h y (u i) (u i + 2) (m + length (sizes h x))) ++ (DoN (o.Load t (ew i)) ∷ []) ++ listing (operated h op (ex i) (type_of y) t t (u i) (u i + 1)) ++ listing (converted (ex i) false t) ++ (DoN (o.Store (ew i) t) ∷ [])))
+    ∙ sym (five (listing (low h x n (n + 1) m)) (listing (low_value h y from (from + 2) (m + length (sizes h x)))) (DoN (o.Load t n) ∷ []) (listing (operated h op (type_of x) (type_of y) t t from (from + 1))) (listing (converted (type_of x) false t)) (DoN (o.Store n t) ∷ []))))

@@ -2,3 +2,4 @@ pub mod MaybeTypes
 pub mod MaybeStatements
 pub mod StatementParts
 pub mod Enclosed
+pub mod Adding

@@ -1,11 +1,13 @@
 // Nodes that are added, and loops over cells.
-ghost use Rattle.std.specs.Prelude.{◌≡◌, ◌==◌, false, ◌++◌, ◌∷◌, [], map, IfOk, OnOk};
-ghost use Rattle.mid_code.specs.Functions.{DoN, node};
-ghost use Rattle.lower_trees.specs.Pieces.{listing};
+ghost use Rattle.std.specs.Prelude.{◌≡◌, ◌==◌, false, map, IfOk, OnOk};
+ghost use Rattle.mid_code.specs.Functions.{node};
+ghost use Rattle.lower_trees.specs.Pieces.{DoP, listing};
+ghost use Rattle.lower_trees.specs.inner.Adding.{AddsCode};
 ghost use Rattle.lower_trees.specs.Parts.{count, one, cell, from, to, copy_turn, zero_turn, copied, zeroed, moved_by, structure_read, stored, made};
 ghost use Rattle.c_types.specs.View.{ctype};
 ghost use Rattle.lower_trees.specs.View.{shape_of};
 
+use crate::output::Nodes;
 use crate::reading::Reading;
 use c_types::{CType, is_structure};
 use kit_base::{Memory, Seq};
@@ -35,15 +37,15 @@ pub(crate) const RESULT_AT: u32 = 8;
 pub(crate) const FIRST_PARAM: u32 = 16;
 
 /// Adds an operation.
-pub(crate) fn put(out: &mut Vec<Node<u32>>, o: Op<u32>) -> Result<(), Memory>
-    ensures { OnOk result (map node out.new.items ≡ map node out.old.items ++ DoN o ∷ []) }
+pub(crate) fn put(nodes: &mut Nodes, o: Op<u32>) -> Result<(), Memory>
+    ensures { OnOk result (AddsCode nodes.old nodes.new (DoP o)) }
 {
-    out.push(Node::Do(o))?;
+    nodes.push(Node::Do(o))?;
     Ok(())
 }
 
 /// One turn per cell that is copied.
-fn copy_turn(alloc: Global) -> Result<Vec<Node<u32>>, Memory>
+fn copy_turn(alloc: Global) -> Result<Nodes, Memory>
     ensures { IfOk result (λ r. map node r.items ≡ listing copy_turn) }
 {
     let mut further = Vec::new(alloc);
@@ -63,7 +65,7 @@ fn copy_turn(alloc: Global) -> Result<Vec<Node<u32>>, Memory>
 }
 
 /// One turn per cell that is set to 0.
-fn zero_turn(alloc: Global) -> Result<Vec<Node<u32>>, Memory>
+fn zero_turn(alloc: Global) -> Result<Nodes, Memory>
     ensures { IfOk result (λ r. map node r.items ≡ listing zero_turn) }
 {
     let mut further = Vec::new(alloc);
@@ -82,83 +84,83 @@ fn zero_turn(alloc: Global) -> Result<Vec<Node<u32>>, Memory>
 
 /// Copies `size` cells.
 #[tactic(auto, using(crate::proofs::Filled::copied_none, crate::proofs::Filled::copied_some))]
-pub(crate) fn copy_cells(alloc: Global, out: &mut Vec<Node<u32>>, size: u32) -> Result<(), Memory>
-    ensures { OnOk result (map node out.new.items ≡ map node out.old.items ++ listing (copied size)) }
+pub(crate) fn copy_cells(alloc: Global, nodes: &mut Nodes, size: u32) -> Result<(), Memory>
+    ensures { OnOk result (AddsCode nodes.old nodes.new (copied size)) }
 {
     if size == 0 {
         return Ok(());
     }
-    put(out, Op::Const(COUNT, size))?;
-    put(out, Op::Const(ONE, 1))?;
+    put(nodes, Op::Const(COUNT, size))?;
+    put(nodes, Op::Const(ONE, 1))?;
     let turn = copy_turn(alloc)?;
-    out.push(Node::Loop(Seq::from_vec(turn)))?;
+    nodes.push(Node::Loop(Seq::from_vec(turn)))?;
     Ok(())
 }
 
 /// Sets `size` cells to 0, at least one.
 #[tactic(auto, using(crate::proofs::Filled::zeroed_some))]
-pub(crate) fn zero_cells(alloc: Global, out: &mut Vec<Node<u32>>, size: u32) -> Result<(), Memory>
+pub(crate) fn zero_cells(alloc: Global, nodes: &mut Nodes, size: u32) -> Result<(), Memory>
     requires some { (size == 0) ≡ false }
-    ensures { OnOk result (map node out.new.items ≡ map node out.old.items ++ listing (zeroed size)) }
+    ensures { OnOk result (AddsCode nodes.old nodes.new (zeroed size)) }
 {
-    put(out, Op::Const(COUNT, size))?;
-    put(out, Op::Const(ONE, 1))?;
-    put(out, Op::Const(CELL, 0))?;
+    put(nodes, Op::Const(COUNT, size))?;
+    put(nodes, Op::Const(ONE, 1))?;
+    put(nodes, Op::Const(CELL, 0))?;
     let turn = zero_turn(alloc)?;
-    out.push(Node::Loop(Seq::from_vec(turn)))?;
+    nodes.push(Node::Loop(Seq::from_vec(turn)))?;
     Ok(())
 }
 
 /// Puts the pointer in `p`, moved on by `offset` words, into `t`.
-pub(crate) fn move_by(out: &mut Vec<Node<u32>>, t: u32, p: u32, offset: u32) -> Result<(), Memory>
-    ensures { OnOk result (map node out.new.items ≡ map node out.old.items ++ listing (moved_by t p offset)) }
+pub(crate) fn move_by(nodes: &mut Nodes, t: u32, p: u32, offset: u32) -> Result<(), Memory>
+    ensures { OnOk result (AddsCode nodes.old nodes.new (moved_by t p offset)) }
 {
-    put(out, Op::Const(t, offset))?;
-    put(out, Op::Step(t, p, t))
+    put(nodes, Op::Const(t, offset))?;
+    put(nodes, Op::Step(t, p, t))
 }
 
 /// Copies the structure at the place in `t` to a local, and puts a pointer to that into `t`.
 pub(crate) fn read_structure(
     alloc: Global,
-    out: &mut Vec<Node<u32>>,
+    nodes: &mut Nodes,
     size: u32,
     local: u32,
     t: u32,
 ) -> Result<(), Memory>
-    ensures { OnOk result (map node out.new.items ≡ map node out.old.items ++ listing (structure_read size local t)) }
+    ensures { OnOk result (AddsCode nodes.old nodes.new (structure_read size local t)) }
 {
-    put(out, Op::Fresh(local))?;
-    put(out, Op::Move(FROM, t))?;
-    put(out, Op::Local(TO, local))?;
-    copy_cells(alloc, out, size)?;
-    put(out, Op::Local(t, local))
+    put(nodes, Op::Fresh(local))?;
+    put(nodes, Op::Move(FROM, t))?;
+    put(nodes, Op::Local(TO, local))?;
+    copy_cells(alloc, nodes, size)?;
+    put(nodes, Op::Local(t, local))
 }
 
 /// Stores the value in a at the place in p.
 pub(crate) fn store(
     s: &Reading<'_>,
-    out: &mut Vec<Node<u32>>,
+    nodes: &mut Nodes,
     ty: &CType,
     p: u32,
     a: u32,
 ) -> Result<(), Memory>
-    ensures { OnOk result (map node out.new.items ≡ map node out.old.items ++ listing (stored (shape_of s.now) (ctype ty.now) p a)) }
+    ensures { OnOk result (AddsCode nodes.old nodes.new (stored (shape_of s.now) (ctype ty.now) p a)) }
 {
     if is_structure(ty) {
-        put(out, Op::Move(FROM, a))?;
-        put(out, Op::Move(TO, p))?;
-        copy_cells(s.alloc, out, s.words(ty))
+        put(nodes, Op::Move(FROM, a))?;
+        put(nodes, Op::Move(TO, p))?;
+        copy_cells(s.alloc, nodes, s.words(ty))
     } else {
-        put(out, Op::Store(p, a))
+        put(nodes, Op::Store(p, a))
     }
 }
 
 /// Makes locals anew.
-pub(crate) fn make(out: &mut Vec<Node<u32>>, locals: &[u32]) -> Result<(), Memory>
-    ensures { OnOk result (map node out.new.items ≡ map node out.old.items ++ listing (made locals.now)) }
+pub(crate) fn make(nodes: &mut Nodes, locals: &[u32]) -> Result<(), Memory>
+    ensures { OnOk result (AddsCode nodes.old nodes.new (made locals.now)) }
 {
     'locals: for k in locals {
-        put(out, Op::Fresh(*k))?;
+        put(nodes, Op::Fresh(*k))?;
     }
     Ok(())
 }

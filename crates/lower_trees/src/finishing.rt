@@ -1,22 +1,23 @@
 // What comes behind the operands of an expression.
-ghost use Rattle.std.specs.Prelude.{◌≡◌, ◌≤◌, ◌+◌, ◌++◌, ◌∷◌, [], length, map, false, if◌then◌else◌, IfOk, OnOk};
-ghost use Rattle.c_types.specs.View.{ctype};
-ghost use Rattle.mid_code.specs.Functions.{DoN, node};
-ghost use Rattle.lower_trees.specs.Shape.{words};
-ghost use Rattle.lower_trees.specs.Counts.{one_size};
+ghost use Rattle.std.specs.Prelude.{◌≡◌, ◌≤◌, ◌+◌, ◌++◌, ◌∷◌, [], map, false, if◌then◌else◌, IfOk, OnOk};
+ghost use Rattle.c_types.specs.View.{ctype, or_void};
 ghost use Rattle.c_types.specs.Kinds.{is_void};
-ghost use Rattle.lower_trees.specs.Pieces.{listing};
-ghost use Rattle.lower_trees.specs.Parts.{as_flag, converted, stored, operated, moved_by, structure_read};
+ghost use Rattle.mid_code.specs.Functions.{node};
+ghost use Rattle.lower_trees.specs.Shape.{words};
+ghost use Rattle.lower_trees.specs.Counts.{one_size, size_temps};
+ghost use Rattle.lower_trees.specs.Pieces.{◌▸◌, DoP, listing};
+ghost use Rattle.lower_trees.specs.Parts.{as_flag, converted, stored, stepped, operated, moved_by, structure_read};
 ghost use Rattle.lower_trees.specs.Expressions.{later_types, step_by, stepped_to, member_of, led, called_with, converted_to};
+ghost use Rattle.lower_trees.specs.inner.Adding.{Adds, AddsCode, HasRoom};
 ghost use Rattle.lower_trees.specs.inner.Enclosed.{lazy_choice};
-ghost use Rattle.c_types.specs.View.{or_void};
 ghost use Rattle.lower_trees.specs.inner.MaybeTypes.{or_none};
 ghost use Rattle.lower_trees.specs.View.{shape_of};
 
-use crate::at::At;
 use crate::cells::{move_by, put, read_structure, store};
+use crate::kinds::is_scalar;
 use crate::operands::Operands;
-use crate::operating::{convert, operate, put_flag, step_one};
+use crate::operating::{convert, operate, put_flag, step_by, step_one};
+use crate::output::{Nodes, Output};
 use crate::reading::Reading;
 use c_tree::BinOp;
 use c_types::{CType, is_structure, is_void};
@@ -27,45 +28,57 @@ use std::alloc::Global;
 /// The structure at the place in t, whose type this is, is copied to a local of its own.
 pub(crate) fn take_structure(
     s: &Reading<'_>,
-    out: &mut Vec<Node<u32>>,
-    structures: &mut Vec<u32>,
     ty: &CType,
     t: u32,
-    at: At,
-) -> Result<At, Memory>
-    requires locals { at.local + 1 ≤ 1000000 }
-    ensures nodes { OnOk result (map node out.new.items ≡ map node out.old.items
-        ++ listing (structure_read (words (shape_of s.now) (ctype ty.now)) at.local t)) }
-    ensures sizes { OnOk result (structures.new.items ≡ structures.old.items ++ words (shape_of s.now) (ctype ty.now) ∷ []) }
-    ensures next { IfOk result (λ r. r.next ≡ at.next) }
-    ensures local { IfOk result (λ r. r.local ≡ at.local + 1) }
+    out: &mut Output,
+) -> Result<(), Memory>
+    requires room { HasRoom out.old 0 (words (shape_of s.now) (ctype ty.now) ∷ []) }
+    ensures adds { OnOk result (Adds out.old out.new (λ n m. structure_read (words (shape_of s.now) (ctype ty.now)) m t)
+        0 (words (shape_of s.now) (ctype ty.now) ∷ [])) }
 {
     let size = s.words(ty);
-    structures.push(size)?;
-    read_structure(s.alloc, out, size, at.local, t)?;
-    Ok(At {
-        next: at.next,
-        local: at.local + 1,
-    })
+    let local = out.local();
+    out.locals.push(size)?;
+    read_structure(s.alloc, &mut out.nodes, size, local, t)
+}
+
+/// Puts the pointer in `a`, moved on by the number of elements of a type in `b`, into `t`. The size of an element comes to the next temporary.
+pub(crate) fn step_on(
+    s: &Reading<'_>,
+    ty: &CType,
+    t: u32,
+    a: u32,
+    b: u32,
+    out: &mut Output,
+) -> Result<(), Memory>
+    requires next { out.old.next + size_temps (ctype ty.now) ≤ 1000000 }
+    ensures adds { OnOk result (Adds out.old out.new (λ n m. stepped (words (shape_of s.now) (ctype ty.now)) t a b n) (size_temps (ctype ty.now)) []) }
+{
+    let k = Operands {
+        target: t,
+        first: a,
+        second: b,
+        scale: out.next,
+    };
+    step_by(&mut out.nodes, s.words(ty), k)?;
+    if is_scalar(ty) {
+        return Ok(());
+    }
+    out.take(1);
+    Ok(())
 }
 
 /// Chooses by the first operand of `&&` or `||` whether the second one is run.
-fn put_lazy(
-    alloc: Global,
-    out: &mut Vec<Node<u32>>,
-    and: bool,
-    t: u32,
-    last: Vec<Node<u32>>,
-) -> Result<(), Memory>
-    ensures { OnOk result (map node out.new.items ≡ map node out.old.items ++ lazy_choice and t (map node last.items)) }
+fn put_lazy(alloc: Global, nodes: &mut Nodes, and: bool, t: u32, last: Nodes) -> Result<(), Memory>
+    ensures { OnOk result (map node nodes.new.items ≡ map node nodes.old.items ++ lazy_choice and t (map node last.items)) }
 {
     let mut known = Vec::new(alloc);
     if and {
         put(&mut known, Op::Const(t, 0))?;
-        out.push(Node::Choose(t, Seq::from_vec(last), Seq::from_vec(known)))?;
+        nodes.push(Node::Choose(t, Seq::from_vec(last), Seq::from_vec(known)))?;
     } else {
         put(&mut known, Op::Const(t, 1))?;
-        out.push(Node::Choose(t, Seq::from_vec(known), Seq::from_vec(last)))?;
+        nodes.push(Node::Choose(t, Seq::from_vec(known), Seq::from_vec(last)))?;
     }
     Ok(())
 }
@@ -73,69 +86,57 @@ fn put_lazy(
 /// Chooses by the first operand of `&&` or `||` whether the second one is run, whose word is made 0 or 1 where it is not known to be.
 pub(crate) fn choose_lazy(
     alloc: Global,
-    out: &mut Vec<Node<u32>>,
+    nodes: &mut Nodes,
     and: bool,
     flag: bool,
     t: u32,
-    last: Vec<Node<u32>>,
-    at: At,
-) -> Result<At, Memory>
-    requires next { at.next + 2 ≤ 1000000 }
-    ensures nodes { OnOk result (map node out.new.items ≡ map node out.old.items ++ lazy_choice and t (map node last.items ++ listing (as_flag flag t))) }
-    ensures next { IfOk result (λ r. r.next ≡ at.next + 2) }
-    ensures local { IfOk result (λ r. r.local ≡ at.local) }
+    last: Nodes,
+) -> Result<(), Memory>
+    ensures { OnOk result (map node nodes.new.items ≡ map node nodes.old.items ++ lazy_choice and t (map node last.items ++ listing (as_flag flag t))) }
 {
     let mut last = last;
     put_flag(&mut last, flag, t)?;
-    put_lazy(alloc, out, and, t, last)?;
-    Ok(At {
-        next: at.next + 2,
-        local: at.local,
-    })
+    put_lazy(alloc, nodes, and, t, last)
 }
 
 /// The value in t is stored at the place in p, whose type this is.
 pub(crate) fn assign(
     s: &Reading<'_>,
-    out: &mut Vec<Node<u32>>,
+    nodes: &mut Nodes,
     ty: &CType,
     known: bool,
     p: u32,
     t: u32,
-    at: At,
-) -> Result<At, Memory>
-    ensures nodes { OnOk result (map node out.new.items ≡ map node out.old.items ++ listing (converted (ctype ty.now) known t)
-        ++ listing (stored (shape_of s.now) (ctype ty.now) p t)) }
-    ensures at { IfOk result (λ r. r ≡ at) }
+) -> Result<(), Memory>
+    ensures { OnOk result (AddsCode nodes.old nodes.new (converted (ctype ty.now) known t ▸ stored (shape_of s.now) (ctype ty.now) p t)) }
 {
-    convert(out, ty, known, t)?;
-    store(s, out, ty, p, t)?;
-    Ok(at)
+    convert(nodes, ty, known, t)?;
+    store(s, nodes, ty, p, t)
 }
 
 /// The cell at the place in p is loaded, operated on and stored there again.
 pub(crate) fn compound(
     s: &Reading<'_>,
-    out: &mut Vec<Node<u32>>,
+    nodes: &mut Nodes,
     op: BinOp,
     ty: &CType,
     other: &CType,
     k: Operands,
     p: u32,
 ) -> Result<(), Memory>
-    ensures { OnOk result (map node out.new.items ≡ map node out.old.items ++ DoN (Op.Load k.first p) ∷ []
-        ++ listing (operated (shape_of s.now) op (ctype ty.now) (ctype other.now) k.target k.first k.second k.scale)
-        ++ listing (converted (ctype ty.now) false k.target) ++ DoN (Op.Store p k.target) ∷ []) }
+    ensures { OnOk result (AddsCode nodes.old nodes.new (DoP (Op.Load k.first p)
+        ▸ operated (shape_of s.now) op (ctype ty.now) (ctype other.now) k.target k.first k.second k.scale
+        ▸ converted (ctype ty.now) false k.target ▸ DoP (Op.Store p k.target))) }
 {
-    put(out, Op::Load(k.first, p))?;
-    operate(s, out, op, ty, other, k)?;
-    convert(out, ty, false, k.target)?;
-    put(out, Op::Store(p, k.target))
+    put(nodes, Op::Load(k.first, p))?;
+    operate(s, nodes, op, ty, other, k)?;
+    convert(nodes, ty, false, k.target)?;
+    put(nodes, Op::Store(p, k.target))
 }
 
 fn step_to(
     s: &Reading<'_>,
-    out: &mut Vec<Node<u32>>,
+    nodes: &mut Nodes,
     up: bool,
     ty: &CType,
     new: u32,
@@ -143,19 +144,19 @@ fn step_to(
     p: u32,
 ) -> Result<(), Memory>
     requires next { p + 1 ≤ 1000000 }
-    ensures nodes { OnOk result (map node out.new.items ≡ map node out.old.items ++ listing (stepped_to (shape_of s.now) up (ctype ty.now) new old p)) }
+    ensures nodes { OnOk result (AddsCode nodes.old nodes.new (stepped_to (shape_of s.now) up (ctype ty.now) new old p)) }
 {
-    put(out, Op::Load(old, p))?;
-    step_one(s, out, up, ty, new, old, p + 1)?;
-    convert(out, ty, false, new)?;
-    put(out, Op::Store(p, new))
+    put(nodes, Op::Load(old, p))?;
+    step_one(s, nodes, up, ty, new, old, p + 1)?;
+    convert(nodes, ty, false, new)?;
+    put(nodes, Op::Store(p, new))
 }
 
 /// The cell at the place in p goes one up or down; t takes the new cell, or the old one. The temporary behind p takes the difference, and then the
 /// new cell where t takes the old one.
 pub(crate) fn step(
     s: &Reading<'_>,
-    out: &mut Vec<Node<u32>>,
+    nodes: &mut Nodes,
     old: bool,
     up: bool,
     ty: &CType,
@@ -163,17 +164,17 @@ pub(crate) fn step(
     p: u32,
 ) -> Result<(), Memory>
     requires next { p + 1 ≤ 1000000 }
-    ensures nodes { OnOk result (map node out.new.items ≡ map node out.old.items ++ listing (step_by (shape_of s.now) old up (ctype ty.now) t p)) }
+    ensures nodes { OnOk result (AddsCode nodes.old nodes.new (step_by (shape_of s.now) old up (ctype ty.now) t p)) }
 {
     if old {
-        step_to(s, out, up, ty, p + 1, t, p)
+        step_to(s, nodes, up, ty, p + 1, t, p)
     } else {
-        step_to(s, out, up, ty, t, t, p)
+        step_to(s, nodes, up, ty, t, t, p)
     }
 }
 
-fn load_member(out: &mut Vec<Node<u32>>, place: bool, ty: &CType, t: u32) -> Result<(), Memory>
-    ensures { OnOk result (map node out.new.items ≡ map node out.old.items ++ listing (member_of place (ctype ty.now) t)) }
+fn load_member(nodes: &mut Nodes, place: bool, ty: &CType, t: u32) -> Result<(), Memory>
+    ensures { OnOk result (AddsCode nodes.old nodes.new (member_of place (ctype ty.now) t)) }
 {
     if place {
         return Ok(());
@@ -181,27 +182,23 @@ fn load_member(out: &mut Vec<Node<u32>>, place: bool, ty: &CType, t: u32) -> Res
     if is_structure(ty) {
         Ok(())
     } else {
-        put(out, Op::Load(t, t))
+        put(nodes, Op::Load(t, t))
     }
 }
 
 /// Puts the member `offset` words behind the structure in `p` into `t`; a scalar of a structure that is no place is read.
 pub(crate) fn member(
-    out: &mut Vec<Node<u32>>,
+    nodes: &mut Nodes,
     place: bool,
     ty: &CType,
     t: u32,
     p: u32,
     offset: u32,
-    at: At,
-) -> Result<At, Memory>
-    ensures nodes { OnOk result (map node out.new.items ≡ map node out.old.items ++ listing (moved_by t p offset)
-        ++ listing (member_of place (ctype ty.now) t)) }
-    ensures at { IfOk result (λ r. r ≡ at) }
+) -> Result<(), Memory>
+    ensures { OnOk result (AddsCode nodes.old nodes.new (moved_by t p offset ▸ member_of place (ctype ty.now) t)) }
 {
-    move_by(out, t, p, offset)?;
-    load_member(out, place, ty, t)?;
-    Ok(at)
+    move_by(nodes, t, p, offset)?;
+    load_member(nodes, place, ty, t)
 }
 
 /// The function that is called, and the temporary that its result comes to.
@@ -233,76 +230,65 @@ fn target_of(ty: &CType, t: u32) -> Option<u32>
 /// Calls a function whose result has this type.
 fn call_giving(
     s: &Reading<'_>,
-    out: &mut Vec<Node<u32>>,
-    structures: &mut Vec<u32>,
     ty: &CType,
     to: Callee,
     args: Vec<u32>,
-    at: At,
-) -> Result<At, Memory>
-    requires locals { at.local + length (one_size (shape_of s.now) (ctype ty.now)) ≤ 1000000 }
-    ensures nodes { OnOk result (map node out.new.items ≡ map node out.old.items
-        ++ listing (called_with (ctype ty.now) to.function at.local to.target args.items)) }
-    ensures sizes { OnOk result (structures.new.items ≡ structures.old.items ++ one_size (shape_of s.now) (ctype ty.now)) }
-    ensures next { IfOk result (λ r. r.next ≡ at.next) }
-    ensures local { IfOk result (λ r. r.local ≡ at.local + length (one_size (shape_of s.now) (ctype ty.now))) }
+    out: &mut Output,
+) -> Result<(), Memory>
+    requires room { HasRoom out.old 0 (one_size (shape_of s.now) (ctype ty.now)) }
+    ensures adds { OnOk result (Adds out.old out.new (λ n m. called_with (ctype ty.now) to.function m to.target args.items)
+        0 (one_size (shape_of s.now) (ctype ty.now))) }
 {
     let args = Seq::from_vec(args);
     if is_structure(ty) {
-        structures.push(s.words(ty))?;
-        put(out, Op::Fresh(at.local))?;
-        put(out, Op::Local(to.target, at.local))?;
-        put(out, Op::Call(None, to.function, args))?;
-        Ok(At {
-            next: at.next,
-            local: at.local + 1,
-        })
+        let local = out.local();
+        out.locals.push(s.words(ty))?;
+        put(&mut out.nodes, Op::Fresh(local))?;
+        put(&mut out.nodes, Op::Local(to.target, local))?;
+        put(&mut out.nodes, Op::Call(None, to.function, args))
     } else {
-        put(out, Op::Call(target_of(ty, to.target), to.function, args))?;
-        Ok(at)
+        put(
+            &mut out.nodes,
+            Op::Call(target_of(ty, to.target), to.function, args),
+        )
     }
 }
 
 /// Calls a function whose result has this type, or which is not there.
 pub(crate) fn call(
     s: &Reading<'_>,
-    out: &mut Vec<Node<u32>>,
-    structures: &mut Vec<u32>,
     ty: Option<&CType>,
     to: Callee,
     args: Vec<u32>,
-    at: At,
-) -> Result<At, Memory>
-    requires locals { at.local + length (one_size (shape_of s.now) (or_void ty)) ≤ 1000000 }
-    ensures nodes { OnOk result (map node out.new.items ≡ map node out.old.items
-        ++ listing (called_with (or_void ty.entry) to.function at.local to.target args.items)) }
-    ensures sizes { OnOk result (structures.new.items ≡ structures.old.items ++ one_size (shape_of s.now) (or_void ty.entry)) }
-    ensures next { IfOk result (λ r. r.next ≡ at.next) }
-    ensures local { IfOk result (λ r. r.local ≡ at.local + length (one_size (shape_of s.now) (or_void ty.entry))) }
+    out: &mut Output,
+) -> Result<(), Memory>
+    requires room { HasRoom out.old 0 (one_size (shape_of s.now) (or_void ty)) }
+    ensures adds { OnOk result (Adds out.old out.new (λ n m. called_with (or_void ty.entry) to.function m to.target args.items)
+        0 (one_size (shape_of s.now) (or_void ty.entry))) }
 {
     match ty {
-        None => {
-            put(out, Op::Call(None, to.function, Seq::from_vec(args)))?;
-            Ok(at)
-        }
-        Some(ty) => call_giving(s, out, structures, ty, to, args, at),
+        None => put(
+            &mut out.nodes,
+            Op::Call(None, to.function, Seq::from_vec(args)),
+        ),
+        Some(ty) => call_giving(s, ty, to, args, out),
     }
 }
 
 /// The first of these types, where there is one, is what the value in t is converted to.
 pub(crate) fn convert_first(
-    out: &mut Vec<Node<u32>>,
+    nodes: &mut Nodes,
     types: Option<&[CType]>,
     known: bool,
     t: u32,
 ) -> Result<(), Memory>
-    ensures { OnOk result (map node out.new.items ≡ map node out.old.items ++ listing (converted_to (or_none types.entry) known t)) }
+    ensures { OnOk result (AddsCode nodes.old nodes.new (converted_to (or_none types.entry) known t)) }
 {
     match types {
         None => Ok(()),
         Some(types) => match types.split_first() {
             None => Ok(()),
-            Some((ty, _)) => convert(out, ty, known, t),
+            Some((ty, _)) => convert(nodes, ty, known, t),
         },
     }
 }

@@ -4,7 +4,6 @@
 //! memory. What that code does is told in mid_lower, which lowers whole programs. It stands on c_types for trees, and on mid_code for code.
 #![tactic(auto)]
 
-mod at;
 mod cells;
 mod expressions;
 mod finishing;
@@ -12,10 +11,10 @@ mod functions;
 mod initialisers;
 mod jump;
 mod kinds;
-mod last;
 mod looping;
 mod operands;
 mod operating;
+mod output;
 mod reading;
 mod statements;
 

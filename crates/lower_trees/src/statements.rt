@@ -1,30 +1,37 @@
 // Statements, lowered.
-ghost use Rattle.std.specs.Prelude.{◌≡◌, ◌≤◌, ◌+◌, ◌++◌, length, map, IfOk, OnOk};
+#![tactic(auto, using(crate::proofs::Joins::length_both))]
+
+ghost use Rattle.std.specs.Prelude.{◌≡◌, ◌≤◌, ◌+◌, length, map, IfOk, OnOk};
 ghost use Rattle.c_types.specs.Typed.{BlockZ, WhileZ, DoWhileZ};
 ghost use Rattle.c_types.specs.View.{ctype, texpr, tstmt, tstmts, tarm, tarms};
-ghost use Rattle.c_types.specs.Nodes.{statement_nodes, maybe_statement_nodes, statements_nodes, arms_nodes};
+ghost use Rattle.c_types.specs.Nodes.{maybe_statement_nodes, statements_nodes, arms_nodes};
 ghost use Rattle.mid_code.specs.Functions.{node};
-ghost use Rattle.lower_trees.specs.Counts.{stmt_temps, stmts_temps, other_temps, arms_temps, stmt_sizes, stmts_sizes, other_sizes, arms_sizes};
-ghost use Rattle.lower_trees.specs.Pieces.{listing};
-ghost use Rattle.lower_trees.specs.Statements.{depth, low_stmt, low_other, low_stmts, low_arms, ToEnd};
+ghost use Rattle.lower_trees.specs.Counts.{value_temps, stmt_temps, stmts_temps, other_temps, arms_temps};
+ghost use Rattle.lower_trees.specs.Counts.{value_sizes, stmt_sizes, stmts_sizes, other_sizes, arms_sizes};
+ghost use Rattle.lower_trees.specs.Pieces.{◌▸◌, DoP, BlockP, listing};
+ghost use Rattle.lower_trees.specs.Parts.{one, made};
+ghost use Rattle.lower_trees.specs.Expressions.{low_value};
+ghost use Rattle.lower_trees.specs.Statements.{labels_before_default, low_match, low_stmt, low_other, low_stmts, low_arms, ToEnd};
+ghost use Rattle.lower_trees.specs.inner.Adding.{Adds, AddsInside, HasRoom};
 ghost use Rattle.lower_trees.specs.inner.MaybeStatements.{other_of};
-ghost use Rattle.lower_trees.specs.inner.StatementParts.{choice_of, for_of, switch_of};
+ghost use Rattle.lower_trees.specs.inner.StatementParts.{choice_of, for_of, switch_of, AddsStatement, AddsNested, CanLower, CanLowerOne};
 ghost use Rattle.lower_trees.specs.View.{shape_of, jump_of};
 
-use crate::at::{At, from};
 use crate::cells::make;
 use crate::expressions::value;
 use crate::initialisers::variables;
 use crate::jump::{Exits, JumpTo};
 use crate::looping::{
     Turn, begin_turn, close_do_while, close_label, close_turn, close_while, condition, further,
-    jump, leave, put_block, put_choice, put_tests, return_nothing, return_value,
+    jump, put_block, put_choice, put_tests, return_nothing, return_value,
 };
+use crate::output::{Nodes, Output};
 use crate::reading::Reading;
 use c_exprs::keeping;
 use c_types::{CType, TArm, TExpr, TStmt};
 use kit_base::Memory;
-use mid_code::Node;
+use mid_code::Op;
+use std::mem;
 
 /// The branches of an `if`.
 #[derive(Clone, Copy)]
@@ -52,399 +59,322 @@ struct SwitchParts<'x> {
 
 /// A statement.
 #[cycle(execute)]
-#[tactic(auto, using(crate::proofs::Joins::length_both))]
 fn statement<'x>(
     s: &Reading<'x>,
     exits: Exits<'_>,
     a: &'x TStmt,
-    at: At,
-    out: &mut Vec<Node<u32>>,
-    structures: &mut Vec<u32>,
-) -> Result<At, Memory>
-    requires temps { at.next + stmt_temps (tstmt a.now) ≤ 1000000 }
-    requires locals { at.local + length (stmt_sizes (shape_of s.now) (tstmt a.now)) ≤ 1000000 }
-    requires few { statement_nodes (tstmt a.now) ≤ 1000000 }
-    requires jump { depth (jump_of exits.continues) ≤ at.next }
-    ensures nodes { OnOk result (map node out.new.items ≡ map node out.old.items
-        ++ listing (low_stmt (shape_of s.now) (ctype exits.entry.gives.now) (tstmt a.now)
-        at.next at.local exits.entry.breaks (jump_of exits.entry.continues))) }
-    ensures sizes { OnOk result (structures.new.items ≡ structures.old.items ++ stmt_sizes (shape_of s.now) (tstmt a.now)) }
-    ensures next { IfOk result (λ r. r.next ≡ at.next + stmt_temps (tstmt a.now)) }
-    ensures local { IfOk result (λ r. r.local ≡ at.local + length (stmt_sizes (shape_of s.now) (tstmt a.now))) }
+    out: &mut Output,
+) -> Result<(), Memory>
+    requires room { CanLowerOne s.now exits.continues (tstmt a.now) out.old }
+    ensures adds { OnOk result (AddsStatement s.now exits.entry (tstmt a.now) out.old out.new) }
 {
     match a {
         TStmt::Block(made, body) => {
             let made = made.as_slice();
-            block(s, exits, made, body.as_slice(), at, out, structures)
+            block(s, exits, made, body.as_slice(), out)
         }
-        TStmt::Empty => Ok(at),
-        TStmt::Vars(vs) => variables(s, vs.as_slice(), at, out, structures),
-        TStmt::Do(x) => value(s, x, at.next, from(at.next + 1, at.local), out, structures),
-        TStmt::If(x, body, None) => choice(s, exits, x, Branches(body, None), at, out, structures),
-        TStmt::If(x, body, Some(rest)) => {
-            choice(s, exits, x, Branches(body, Some(rest)), at, out, structures)
+        TStmt::Empty => Ok(()),
+        TStmt::Vars(vs) => variables(s, vs.as_slice(), out),
+        TStmt::Do(x) => {
+            let t = out.take(1);
+            value(s, x, t, out)
         }
-        TStmt::While(x, body) => while_loop(s, exits.gives, x, body, at, out, structures),
-        TStmt::DoWhile(body, x) => do_while_loop(s, exits.gives, body, x, at, out, structures),
+        TStmt::If(x, body, None) => choice(s, exits, x, Branches(body, None), out),
+        TStmt::If(x, body, Some(rest)) => choice(s, exits, x, Branches(body, Some(rest)), out),
+        TStmt::While(x, body) => while_loop(s, exits.gives, x, body, out),
+        TStmt::DoWhile(body, x) => do_while_loop(s, exits.gives, body, x, out),
         TStmt::For(made, None, test, step, body) => {
             let made = made.as_slice();
             let head = ForHead(None, test.as_ref(), step.as_ref());
             let of = ForParts { made, head, body };
-            for_loop(s, exits, of, at, out, structures)
+            for_loop(s, exits, of, out)
         }
         TStmt::For(made, Some(first), test, step, body) => {
             let made = made.as_slice();
             let head = ForHead(Some(first), test.as_ref(), step.as_ref());
             let of = ForParts { made, head, body };
-            for_loop(s, exits, of, at, out, structures)
+            for_loop(s, exits, of, out)
         }
         TStmt::Switch(value, made, arms) => {
             let made = made.as_slice();
             let arms = arms.as_slice();
             let of = SwitchParts { value, made, arms };
-            switch(s, exits, of, at, out, structures)
+            switch(s, exits, of, out)
         }
-        TStmt::Return(None) => return_nothing(out, at),
-        TStmt::Return(Some(x)) => return_value(s, exits.gives, x, at, out, structures),
-        TStmt::Break => leave(out, exits.breaks, at),
-        TStmt::Continue => jump(out, exits.continues, at),
+        TStmt::Return(None) => return_nothing(&mut out.nodes),
+        TStmt::Return(Some(x)) => return_value(s, exits.gives, x, out),
+        TStmt::Break => jump(&mut out.nodes, JumpTo::End(exits.breaks)),
+        TStmt::Continue => jump(&mut out.nodes, exits.continues),
     }
 }
 
-/// A statement as nodes of its own.
+/// A statement behind nodes that come to stand inside of others.
 #[cycle(execute)]
-#[tactic(auto, using(crate::proofs::Joins::length_both))]
 fn nested<'x>(
     s: &Reading<'x>,
     exits: Exits<'_>,
     a: &'x TStmt,
-    at: At,
-    structures: &mut Vec<u32>,
-) -> Result<(Vec<Node<u32>>, At), Memory>
-    requires temps { at.next + stmt_temps (tstmt a.now) ≤ 1000000 }
-    requires locals { at.local + length (stmt_sizes (shape_of s.now) (tstmt a.now)) ≤ 1000000 }
-    requires few { statement_nodes (tstmt a.now) ≤ 1000000 }
-    requires jump { depth (jump_of exits.continues) ≤ at.next }
-    ensures nodes { IfOk result (λ r. map node r.0.items ≡ listing (low_stmt (shape_of s.now) (ctype exits.entry.gives.now) (tstmt a.now)
-        at.next at.local exits.entry.breaks (jump_of exits.entry.continues))) }
-    ensures sizes { OnOk result (structures.new.items ≡ structures.old.items ++ stmt_sizes (shape_of s.now) (tstmt a.now)) }
-    ensures next { IfOk result (λ r. r.1.next ≡ at.next + stmt_temps (tstmt a.now)) }
-    ensures local { IfOk result (λ r. r.1.local ≡ at.local + length (stmt_sizes (shape_of s.now) (tstmt a.now))) }
+    begun: Nodes,
+    out: &mut Output,
+) -> Result<Nodes, Memory>
+    requires room { CanLowerOne s.now exits.continues (tstmt a.now) out.old }
+    ensures adds { IfOk result (λ r. AddsNested s.now exits.entry (tstmt a.now) (map node begun.items) r out.old out.new) }
 {
-    let mut inside = Vec::new(s.alloc);
-    let done = statement(s, exits, a, at, &mut inside, structures)?;
-    Ok((inside, done))
+    let before = mem::replace(&mut out.nodes, begun);
+    let answer = statement(s, exits, a, out);
+    let inside = mem::replace(&mut out.nodes, before);
+    let (inside, _) = keeping(inside, answer)?;
+    Ok(inside)
+}
+
+/// A statement, where there is one, as nodes that come to stand inside of others.
+#[cycle(execute)]
+fn nested_other<'x>(
+    s: &Reading<'x>,
+    exits: Exits<'_>,
+    a: Option<&'x TStmt>,
+    out: &mut Output,
+) -> Result<Nodes, Memory>
+    requires room { CanLower exits.continues (other_temps (other_of a))
+        (other_sizes (shape_of s.now) (other_of a)) (maybe_statement_nodes (other_of a)) out.old }
+    ensures adds { IfOk result (λ r. AddsInside out.old out.new r (λ n m. listing
+        (low_other (shape_of s.now) (ctype exits.entry.gives.now) (other_of a.entry) n m exits.entry.breaks (jump_of exits.entry.continues)))
+        (other_temps (other_of a.entry)) (other_sizes (shape_of s.now) (other_of a.entry))) }
+{
+    match a {
+        None => Ok(Vec::new(s.alloc)),
+        Some(a) => nested(s, exits, a, Vec::new(s.alloc), out),
+    }
 }
 
 /// A statement, where there is one.
 #[cycle(execute)]
-#[tactic(auto, using(crate::proofs::Joins::length_both))]
 fn other<'x>(
     s: &Reading<'x>,
     exits: Exits<'_>,
     a: Option<&'x TStmt>,
-    at: At,
-    out: &mut Vec<Node<u32>>,
-    structures: &mut Vec<u32>,
-) -> Result<At, Memory>
-    requires temps { at.next + other_temps (other_of a) ≤ 1000000 }
-    requires locals { at.local + length (other_sizes (shape_of s.now) (other_of a)) ≤ 1000000 }
-    requires few { maybe_statement_nodes (other_of a) ≤ 1000000 }
-    requires jump { depth (jump_of exits.continues) ≤ at.next }
-    ensures nodes { OnOk result (map node out.new.items ≡ map node out.old.items
-        ++ listing (low_other (shape_of s.now) (ctype exits.entry.gives.now) (other_of a.entry)
-        at.next at.local exits.entry.breaks (jump_of exits.entry.continues))) }
-    ensures sizes { OnOk result (structures.new.items ≡ structures.old.items ++ other_sizes (shape_of s.now) (other_of a.entry)) }
-    ensures next { IfOk result (λ r. r.next ≡ at.next + other_temps (other_of a.entry)) }
-    ensures local { IfOk result (λ r. r.local ≡ at.local + length (other_sizes (shape_of s.now) (other_of a.entry))) }
+    out: &mut Output,
+) -> Result<(), Memory>
+    requires room { CanLower exits.continues (other_temps (other_of a))
+        (other_sizes (shape_of s.now) (other_of a)) (maybe_statement_nodes (other_of a)) out.old }
+    ensures adds { OnOk result (Adds out.old out.new (λ n m.
+        low_other (shape_of s.now) (ctype exits.entry.gives.now) (other_of a.entry) n m exits.entry.breaks (jump_of exits.entry.continues))
+        (other_temps (other_of a.entry)) (other_sizes (shape_of s.now) (other_of a.entry))) }
 {
     match a {
-        None => Ok(at),
-        Some(a) => statement(s, exits, a, at, out, structures),
+        None => Ok(()),
+        Some(a) => statement(s, exits, a, out),
     }
 }
 
 /// A block that makes these locals anew.
 #[cycle(execute)]
-#[tactic(auto, using(crate::proofs::Joins::length_both))]
 fn block<'x>(
     s: &Reading<'x>,
     exits: Exits<'_>,
     made: &'x [u32],
     body: &'x [TStmt],
-    at: At,
-    out: &mut Vec<Node<u32>>,
-    structures: &mut Vec<u32>,
-) -> Result<At, Memory>
-    requires temps { at.next + stmt_temps (BlockZ made.now (tstmts (map tstmt body.now))) ≤ 1000000 }
-    requires locals { at.local + length (stmt_sizes (shape_of s.now) (BlockZ made.now (tstmts (map tstmt body.now)))) ≤ 1000000 }
-    requires few { statement_nodes (BlockZ made.now (tstmts (map tstmt body.now))) ≤ 1000000 }
-    requires jump { depth (jump_of exits.continues) ≤ at.next }
-    ensures nodes { OnOk result (map node out.new.items ≡ map node out.old.items
-        ++ listing (low_stmt (shape_of s.now) (ctype exits.entry.gives.now) (BlockZ made.now (tstmts (map tstmt body.now)))
-        at.next at.local exits.entry.breaks (jump_of exits.entry.continues))) }
-    ensures sizes { OnOk result (structures.new.items ≡ structures.old.items ++ stmt_sizes (shape_of s.now) (BlockZ made.now (tstmts (map tstmt body.now)))) }
-    ensures next { IfOk result (λ r. r.next ≡ at.next + stmt_temps (BlockZ made.now (tstmts (map tstmt body.now)))) }
-    ensures local { IfOk result (λ r. r.local ≡ at.local + length (stmt_sizes (shape_of s.now) (BlockZ made.now (tstmts (map tstmt body.now))))) }
+    out: &mut Output,
+) -> Result<(), Memory>
+    requires room { CanLowerOne s.now exits.continues (BlockZ made.now (tstmts (map tstmt body.now))) out.old }
+    ensures adds { OnOk result (AddsStatement s.now exits.entry (BlockZ made.now (tstmts (map tstmt body.now))) out.old out.new) }
 {
-    make(out, made)?;
-    statements(s, exits, body, at, out, structures)
+    make(&mut out.nodes, made)?;
+    statements(s, exits, body, out)
 }
 
 /// A choice by a condition.
 #[cycle(execute)]
-#[tactic(auto, using(crate::proofs::Joins::length_both))]
 fn choice<'x>(
     s: &Reading<'x>,
     exits: Exits<'_>,
     x: &'x TExpr,
     branches: Branches<'x>,
-    at: At,
-    out: &mut Vec<Node<u32>>,
-    structures: &mut Vec<u32>,
-) -> Result<At, Memory>
-    requires temps { at.next + stmt_temps (choice_of (texpr x.now) branches) ≤ 1000000 }
-    requires locals { at.local + length (stmt_sizes (shape_of s.now) (choice_of (texpr x.now) branches)) ≤ 1000000 }
-    requires few { statement_nodes (choice_of (texpr x.now) branches) ≤ 1000000 }
-    requires jump { depth (jump_of exits.continues) ≤ at.next }
-    ensures nodes { OnOk result (map node out.new.items ≡ map node out.old.items
-        ++ listing (low_stmt (shape_of s.now) (ctype exits.entry.gives.now) (choice_of (texpr x.now) branches.entry)
-        at.next at.local exits.entry.breaks (jump_of exits.entry.continues))) }
-    ensures sizes { OnOk result (structures.new.items ≡ structures.old.items ++ stmt_sizes (shape_of s.now) (choice_of (texpr x.now) branches.entry)) }
-    ensures next { IfOk result (λ r. r.next ≡ at.next + stmt_temps (choice_of (texpr x.now) branches.entry)) }
-    ensures local { IfOk result (λ r. r.local ≡ at.local + length (stmt_sizes (shape_of s.now) (choice_of (texpr x.now) branches.entry))) }
+    out: &mut Output,
+) -> Result<(), Memory>
+    requires room { CanLowerOne s.now exits.continues (choice_of (texpr x.now) branches) out.old }
+    ensures adds { OnOk result (AddsStatement s.now exits.entry (choice_of (texpr x.now) branches.entry) out.old out.new) }
 {
-    let tested = condition(s, x, at, out, structures)?;
+    let t = out.next;
+    condition(s, x, out)?;
     let Branches(first, second) = branches;
-    let (inside, done) = nested(s, exits, first, tested, structures)?;
-    let mut otherwise = Vec::new(s.alloc);
-    let last = other(s, exits, second, done, &mut otherwise, structures);
-    let ((inside, otherwise), last) = keeping((inside, otherwise), last)?;
-    put_choice(out, at.next, inside, otherwise)?;
-    Ok(last)
+    let inside = nested(s, exits, first, Vec::new(s.alloc), out)?;
+    let otherwise = nested_other(s, exits, second, out);
+    let (inside, otherwise) = keeping(inside, otherwise)?;
+    put_choice(&mut out.nodes, t, inside, otherwise)
 }
 
 /// A loop that begins with its condition.
 #[cycle(execute)]
-#[tactic(auto, using(crate::proofs::Joins::length_both))]
 fn while_loop<'x>(
     s: &Reading<'x>,
     gives: &CType,
     x: &'x TExpr,
     body: &'x TStmt,
-    at: At,
-    out: &mut Vec<Node<u32>>,
-    structures: &mut Vec<u32>,
-) -> Result<At, Memory>
-    requires temps { at.next + stmt_temps (WhileZ (texpr x.now) (tstmt body.now)) ≤ 1000000 }
-    requires locals { at.local + length (stmt_sizes (shape_of s.now) (WhileZ (texpr x.now) (tstmt body.now))) ≤ 1000000 }
-    requires few { statement_nodes (WhileZ (texpr x.now) (tstmt body.now)) ≤ 1000000 }
-    ensures nodes { OnOk result (map node out.new.items ≡ map node out.old.items
-        ++ listing (low_stmt (shape_of s.now) (ctype gives.now) (WhileZ (texpr x.now) (tstmt body.now)) at.next at.local 0 (ToEnd 0))) }
-    ensures sizes { OnOk result (structures.new.items ≡ structures.old.items ++ stmt_sizes (shape_of s.now) (WhileZ (texpr x.now) (tstmt body.now))) }
-    ensures next { IfOk result (λ r. r.next ≡ at.next + stmt_temps (WhileZ (texpr x.now) (tstmt body.now))) }
-    ensures local { IfOk result (λ r. r.local ≡ at.local + length (stmt_sizes (shape_of s.now) (WhileZ (texpr x.now) (tstmt body.now)))) }
+    out: &mut Output,
+) -> Result<(), Memory>
+    requires room { CanLowerOne s.now (JumpTo.Turn 0) (WhileZ (texpr x.now) (tstmt body.now)) out.old }
+    ensures adds { OnOk result (Adds out.old out.new (λ n m.
+        low_stmt (shape_of s.now) (ctype gives.now) (WhileZ (texpr x.now) (tstmt body.now)) n m 0 (ToEnd 0))
+        (stmt_temps (WhileZ (texpr x.now) (tstmt body.now))) (stmt_sizes (shape_of s.now) (WhileZ (texpr x.now) (tstmt body.now)))) }
 {
-    let (turn, tested) = begin_turn(s, Some(x), at, structures)?;
+    let t = out.next;
+    let turn = begin_turn(s, Some(x), out)?;
     let own = Exits {
         gives,
         breaks: 0,
         continues: JumpTo::Turn(0),
     };
-    let inside = nested(s, own, body, tested, structures);
-    let (turn, (inside, done)) = keeping(turn, inside)?;
-    close_while(s.alloc, at.next, turn, inside, out)?;
-    Ok(done)
+    let inside = nested(s, own, body, Vec::new(s.alloc), out);
+    let (turn, inside) = keeping(turn, inside)?;
+    close_while(s.alloc, t, turn, inside, &mut out.nodes)
 }
 
 /// A loop that ends with its condition.
 #[cycle(execute)]
-#[tactic(auto, using(crate::proofs::Joins::length_both))]
 fn do_while_loop<'x>(
     s: &Reading<'x>,
     gives: &CType,
     body: &'x TStmt,
     x: &'x TExpr,
-    at: At,
-    out: &mut Vec<Node<u32>>,
-    structures: &mut Vec<u32>,
-) -> Result<At, Memory>
-    requires temps { at.next + stmt_temps (DoWhileZ (tstmt body.now) (texpr x.now)) ≤ 1000000 }
-    requires locals { at.local + length (stmt_sizes (shape_of s.now) (DoWhileZ (tstmt body.now) (texpr x.now))) ≤ 1000000 }
-    requires few { statement_nodes (DoWhileZ (tstmt body.now) (texpr x.now)) ≤ 1000000 }
-    ensures nodes { OnOk result (map node out.new.items ≡ map node out.old.items
-        ++ listing (low_stmt (shape_of s.now) (ctype gives.now) (DoWhileZ (tstmt body.now) (texpr x.now)) at.next at.local 0 (ToEnd 0))) }
-    ensures sizes { OnOk result (structures.new.items ≡ structures.old.items ++ stmt_sizes (shape_of s.now) (DoWhileZ (tstmt body.now) (texpr x.now))) }
-    ensures next { IfOk result (λ r. r.next ≡ at.next + stmt_temps (DoWhileZ (tstmt body.now) (texpr x.now))) }
-    ensures local { IfOk result (λ r. r.local ≡ at.local + length (stmt_sizes (shape_of s.now) (DoWhileZ (tstmt body.now) (texpr x.now)))) }
+    out: &mut Output,
+) -> Result<(), Memory>
+    requires room { CanLowerOne s.now (JumpTo.End 0) (DoWhileZ (tstmt body.now) (texpr x.now)) out.old }
+    ensures adds { OnOk result (Adds out.old out.new (λ n m.
+        low_stmt (shape_of s.now) (ctype gives.now) (DoWhileZ (tstmt body.now) (texpr x.now)) n m 0 (ToEnd 0))
+        (stmt_temps (DoWhileZ (tstmt body.now) (texpr x.now))) (stmt_sizes (shape_of s.now) (DoWhileZ (tstmt body.now) (texpr x.now)))) }
 {
     let own = Exits {
         gives,
         breaks: 1,
         continues: JumpTo::End(0),
     };
-    let (inside, done) = nested(s, own, body, at, structures)?;
-    close_do_while(s, x, inside, done, out, structures)
+    let inside = nested(s, own, body, Vec::new(s.alloc), out)?;
+    close_do_while(s, x, inside, out)
 }
 
 /// A `for`.
 #[cycle(execute)]
-#[tactic(auto, using(crate::proofs::Joins::length_both))]
 fn for_loop<'x>(
     s: &Reading<'x>,
     exits: Exits<'_>,
     of: ForParts<'x>,
-    at: At,
-    out: &mut Vec<Node<u32>>,
-    structures: &mut Vec<u32>,
-) -> Result<At, Memory>
-    requires temps { at.next + stmt_temps (for_of of) ≤ 1000000 }
-    requires locals { at.local + length (stmt_sizes (shape_of s.now) (for_of of)) ≤ 1000000 }
-    requires few { statement_nodes (for_of of) ≤ 1000000 }
-    requires jump { depth (jump_of exits.continues) ≤ at.next }
-    ensures nodes { OnOk result (map node out.new.items ≡ map node out.old.items
-        ++ listing (low_stmt (shape_of s.now) (ctype exits.entry.gives.now) (for_of of.entry)
-        at.next at.local exits.entry.breaks (jump_of exits.entry.continues))) }
-    ensures sizes { OnOk result (structures.new.items ≡ structures.old.items ++ stmt_sizes (shape_of s.now) (for_of of.entry)) }
-    ensures next { IfOk result (λ r. r.next ≡ at.next + stmt_temps (for_of of.entry)) }
-    ensures local { IfOk result (λ r. r.local ≡ at.local + length (stmt_sizes (shape_of s.now) (for_of of.entry))) }
+    out: &mut Output,
+) -> Result<(), Memory>
+    requires room { CanLowerOne s.now exits.continues (for_of of) out.old }
+    ensures adds { OnOk result (AddsStatement s.now exits.entry (for_of of.entry) out.old out.new) }
 {
-    make(out, of.made)?;
+    make(&mut out.nodes, of.made)?;
     let ForHead(first, test, step) = of.head;
-    let begun = other(s, exits, first, at, out, structures)?;
-    let (turn, tested) = begin_turn(s, test, begun, structures)?;
+    other(s, exits, first, out)?;
+    let temporary = out.next;
+    let condition = begin_turn(s, test, out)?;
     let own = Exits {
         gives: exits.gives,
         breaks: 1,
         continues: JumpTo::End(0),
     };
-    let inside = nested(s, own, of.body, tested, structures);
-    let (turn, (inside, done)) = keeping(turn, inside)?;
+    let body = nested(s, own, of.body, Vec::new(s.alloc), out);
+    let (condition, body) = keeping(condition, body)?;
     let turn = Turn {
         tests: test.is_some(),
-        temporary: begun.next,
-        condition: turn,
-        body: inside,
+        temporary,
+        condition,
+        body,
     };
-    close_turn(s, turn, step, done, out, structures)
+    close_turn(s, turn, step, out)
+}
+
+/// The value of a switch, held against the labels of its arms; its temporary takes how many labels come before the one that is chosen.
+fn begin_switch(s: &Reading<'_>, of: SwitchParts<'_>, out: &mut Output) -> Result<u32, Memory>
+    requires room { HasRoom out.old (value_temps (texpr of.value.now) + 1) (value_sizes (shape_of s.now) (texpr of.value.now)) }
+    requires few { length of.arms.now ≤ 1000000 }
+    ensures adds { OnOk result (Adds out.old out.new (λ n m. low_value (shape_of s.now) (texpr of.entry.value.now) n (n + 1) m
+        ▸ (BlockP (low_match n 0 (labels_before_default (tarms (map tarm of.entry.arms.now))) (tarms (map tarm of.entry.arms.now))) ▸ DoP (Op.Const one 1))
+        ▸ made of.entry.made.now) (value_temps (texpr of.entry.value.now) + 1) (value_sizes (shape_of s.now) (texpr of.entry.value.now))) }
+    ensures temporary { IfOk result (λ r. r ≡ out.old.next) }
+{
+    let t = out.take(1);
+    value(s, of.value, t, out)?;
+    put_tests(s.alloc, t, of.arms, &mut out.nodes)?;
+    make(&mut out.nodes, of.made)?;
+    Ok(t)
 }
 
 /// A switch.
 #[cycle(execute)]
-#[tactic(auto, using(crate::proofs::Joins::length_both))]
 fn switch<'x>(
     s: &Reading<'x>,
     exits: Exits<'_>,
     of: SwitchParts<'x>,
-    at: At,
-    out: &mut Vec<Node<u32>>,
-    structures: &mut Vec<u32>,
-) -> Result<At, Memory>
-    requires temps { at.next + stmt_temps (switch_of of) ≤ 1000000 }
-    requires locals { at.local + length (stmt_sizes (shape_of s.now) (switch_of of)) ≤ 1000000 }
-    requires few { statement_nodes (switch_of of) ≤ 1000000 }
-    requires jump { depth (jump_of exits.continues) ≤ at.next }
-    ensures nodes { OnOk result (map node out.new.items ≡ map node out.old.items
-        ++ listing (low_stmt (shape_of s.now) (ctype exits.entry.gives.now) (switch_of of.entry)
-        at.next at.local exits.entry.breaks (jump_of exits.entry.continues))) }
-    ensures sizes { OnOk result (structures.new.items ≡ structures.old.items ++ stmt_sizes (shape_of s.now) (switch_of of.entry)) }
-    ensures next { IfOk result (λ r. r.next ≡ at.next + stmt_temps (switch_of of.entry)) }
-    ensures local { IfOk result (λ r. r.local ≡ at.local + length (stmt_sizes (shape_of s.now) (switch_of of.entry))) }
+    out: &mut Output,
+) -> Result<(), Memory>
+    requires room { CanLowerOne s.now exits.continues (switch_of of) out.old }
+    ensures adds { OnOk result (AddsStatement s.now exits.entry (switch_of of.entry) out.old out.new) }
 {
-    let tested = value(
-        s,
-        of.value,
-        at.next,
-        from(at.next + 1, at.local),
-        out,
-        structures,
-    )?;
-    put_tests(s.alloc, at.next, of.arms, out)?;
-    make(out, of.made)?;
-    let mut inside = Vec::new(s.alloc);
+    let t = begin_switch(s, of, out)?;
     let own = Exits {
         gives: exits.gives,
         breaks: 0,
         continues: further(exits.continues),
     };
-    let last = labelled(s, own, at.next, of.arms, tested, &mut inside, structures);
-    let (inside, last) = keeping(inside, last)?;
-    put_block(out, inside)?;
-    Ok(last)
+    let inside = labelled(s, own, t, of.arms, out)?;
+    put_block(&mut out.nodes, inside)
 }
 
 /// Statements, one after the other.
 #[cycle(execute)]
-#[tactic(auto, using(crate::proofs::Joins::length_both))]
 pub(crate) fn statements<'x>(
     s: &Reading<'x>,
     exits: Exits<'_>,
     body: &'x [TStmt],
-    at: At,
-    out: &mut Vec<Node<u32>>,
-    structures: &mut Vec<u32>,
-) -> Result<At, Memory>
-    requires temps { at.next + stmts_temps (tstmts (map tstmt body.now)) ≤ 1000000 }
-    requires locals { at.local + length (stmts_sizes (shape_of s.now) (tstmts (map tstmt body.now))) ≤ 1000000 }
-    requires few { statements_nodes (tstmts (map tstmt body.now)) ≤ 1000000 }
-    requires jump { depth (jump_of exits.continues) ≤ at.next }
-    ensures nodes { OnOk result (map node out.new.items ≡ map node out.old.items
-        ++ listing (low_stmts (shape_of s.now) (ctype exits.entry.gives.now) (tstmts (map tstmt body.now))
-        at.next at.local exits.entry.breaks (jump_of exits.entry.continues))) }
-    ensures sizes { OnOk result (structures.new.items ≡ structures.old.items ++ stmts_sizes (shape_of s.now) (tstmts (map tstmt body.now))) }
-    ensures next { IfOk result (λ r. r.next ≡ at.next + stmts_temps (tstmts (map tstmt body.now))) }
-    ensures local { IfOk result (λ r. r.local ≡ at.local + length (stmts_sizes (shape_of s.now) (tstmts (map tstmt body.now)))) }
+    out: &mut Output,
+) -> Result<(), Memory>
+    requires room { CanLower exits.continues (stmts_temps (tstmts (map tstmt body.now)))
+        (stmts_sizes (shape_of s.now) (tstmts (map tstmt body.now))) (statements_nodes (tstmts (map tstmt body.now))) out.old }
+    ensures adds { OnOk result (Adds out.old out.new (λ n m. low_stmts (shape_of s.now) (ctype exits.entry.gives.now) (tstmts (map tstmt body.now))
+        n m exits.entry.breaks (jump_of exits.entry.continues))
+        (stmts_temps (tstmts (map tstmt body.now))) (stmts_sizes (shape_of s.now) (tstmts (map tstmt body.now)))) }
 {
-    let mut here = at;
     for a in body {
-        here = statement(s, exits, a, here, out, structures)?;
+        statement(s, exits, a, out)?;
     }
-    Ok(here)
+    Ok(())
 }
 
 /// The arms of a switch, one after the other; the word in t tells how many labels come before the one that is chosen.
 #[cycle(execute)]
-#[tactic(auto, using(crate::proofs::Joins::length_both))]
 fn labelled<'x>(
     s: &Reading<'x>,
     exits: Exits<'_>,
     t: u32,
     arms: &'x [TArm],
-    at: At,
-    out: &mut Vec<Node<u32>>,
-    structures: &mut Vec<u32>,
-) -> Result<At, Memory>
-    requires temps { at.next + arms_temps (tarms (map tarm arms.now)) ≤ 1000000 }
-    requires locals { at.local + length (arms_sizes (shape_of s.now) (tarms (map tarm arms.now))) ≤ 1000000 }
-    requires few { arms_nodes (tarms (map tarm arms.now)) ≤ 1000000 }
-    requires jump { depth (jump_of exits.continues) ≤ at.next }
-    ensures nodes { OnOk result (map node out.new.items ≡ map node out.old.items
-        ++ listing (low_arms (shape_of s.now) (ctype exits.entry.gives.now) t (tarms (map tarm arms.now))
-        at.next at.local exits.entry.breaks (jump_of exits.entry.continues))) }
-    ensures sizes { OnOk result (structures.new.items ≡ structures.old.items ++ arms_sizes (shape_of s.now) (tarms (map tarm arms.now))) }
-    ensures next { IfOk result (λ r. r.next ≡ at.next + arms_temps (tarms (map tarm arms.now))) }
-    ensures local { IfOk result (λ r. r.local ≡ at.local + length (arms_sizes (shape_of s.now) (tarms (map tarm arms.now)))) }
+    out: &mut Output,
+) -> Result<Nodes, Memory>
+    requires room { CanLower exits.continues (arms_temps (tarms (map tarm arms.now)))
+        (arms_sizes (shape_of s.now) (tarms (map tarm arms.now))) (arms_nodes (tarms (map tarm arms.now))) out.old }
+    ensures adds { IfOk result (λ r. AddsInside out.old out.new r (λ n m. listing
+        (low_arms (shape_of s.now) (ctype exits.entry.gives.now) t (tarms (map tarm arms.now)) n m exits.entry.breaks (jump_of exits.entry.continues)))
+        (arms_temps (tarms (map tarm arms.now))) (arms_sizes (shape_of s.now) (tarms (map tarm arms.now)))) }
 {
-    let mut here = at;
+    let mut nodes = Vec::new(s.alloc);
     let mut met = false;
     let mut inside = Vec::new(s.alloc);
     for arm in arms {
         match arm {
             TArm::Case(_) => {
-                close_label(s.alloc, out, met, t, inside)?;
+                close_label(s.alloc, &mut nodes, met, t, inside)?;
                 inside = Vec::new(s.alloc);
                 met = true;
             }
             TArm::Default => {
-                close_label(s.alloc, out, met, t, inside)?;
+                close_label(s.alloc, &mut nodes, met, t, inside)?;
                 inside = Vec::new(s.alloc);
                 met = true;
             }
-            TArm::Stmt(a) => {
-                here = statement(s, exits, a, here, &mut inside, structures)?;
-            }
+            TArm::Stmt(a) => inside = nested(s, exits, a, inside, out)?,
         }
     }
-    close_label(s.alloc, out, met, t, inside)?;
-    Ok(here)
+    close_label(s.alloc, &mut nodes, met, t, inside)?;
+    Ok(nodes)
 }

@@ -9,8 +9,8 @@ use Rattle.lower_trees.proofs.initialisers.variables.Given as goal
 
 abbrev pub invariant-variables : goal.invariant-variables
 invariant-variables l = record {
-  nodes : map node l.out.items ++ listing (low_vars (shape_of l.s) (map tvar (drop l.v-index l.vs)) l.here.next l.here.local) ≡ map node l.initial.out.items ++ listing (low_vars (shape_of l.s) (map tvar l.vs) l.fn.at.next l.fn.at.local);
-  sizes : l.structures.items ++ vars_sizes (shape_of l.s) (map tvar (drop l.v-index l.vs)) ≡ l.initial.structures.items ++ vars_sizes (shape_of l.s) (map tvar l.vs);
-  temps : l.here.next + vars_temps (map tvar (drop l.v-index l.vs)) ≡ l.fn.at.next + vars_temps (map tvar l.vs);
-  local : l.here.local + length (vars_sizes (shape_of l.s) (map tvar (drop l.v-index l.vs))) ≡ l.fn.at.local + length (vars_sizes (shape_of l.s) (map tvar l.vs));
+  nodes : map node l.out.nodes.items ++ listing (low_vars (shape_of l.s) (map tvar (drop l.v-index l.vs)) l.out.next (length l.out.locals.items)) ≡ map node l.initial.out.nodes.items ++ listing (low_vars (shape_of l.s) (map tvar l.vs) l.initial.out.next (length l.initial.out.locals.items));
+  locals : l.out.locals.items ++ vars_sizes (shape_of l.s) (map tvar (drop l.v-index l.vs)) ≡ l.initial.out.locals.items ++ vars_sizes (shape_of l.s) (map tvar l.vs);
+  temps : l.out.next + vars_temps (map tvar (drop l.v-index l.vs)) ≡ l.initial.out.next + vars_temps (map tvar l.vs);
+  local : length l.out.locals.items + length (vars_sizes (shape_of l.s) (map tvar (drop l.v-index l.vs))) ≡ length l.initial.out.locals.items + length (vars_sizes (shape_of l.s) (map tvar l.vs));
 }

@@ -12,22 +12,23 @@ use Rattle.lower_trees.proofs.statements.+execute.Given as goal
 
 abbrev pub invariant-statements-loop-a : goal.invariant-statements-loop-a
 invariant-statements-loop-a l = record {
-  nodes : map node l.out.items ++ listing (low_stmts (shape_of l.s) (ctype l.exits.gives.now) (tstmts (map tstmt (drop l.a-index l.body))) l.here.next l.here.local l.exits.breaks (jump_of l.exits.continues)) ≡ map node l.initial.out.items ++ listing (low_stmts (shape_of l.s) (ctype l.exits.gives.now) (tstmts (map tstmt l.body)) l.fn.at.next l.fn.at.local l.exits.breaks (jump_of l.exits.continues));
-  sizes : l.structures.items ++ stmts_sizes (shape_of l.s) (tstmts (map tstmt (drop l.a-index l.body))) ≡ l.initial.structures.items ++ stmts_sizes (shape_of l.s) (tstmts (map tstmt l.body));
-  temps : l.here.next + stmts_temps (tstmts (map tstmt (drop l.a-index l.body))) ≡ l.fn.at.next + stmts_temps (tstmts (map tstmt l.body));
-  local : l.here.local + length (stmts_sizes (shape_of l.s) (tstmts (map tstmt (drop l.a-index l.body)))) ≡ l.fn.at.local + length (stmts_sizes (shape_of l.s) (tstmts (map tstmt l.body)));
+  nodes : map node l.out.nodes.items ++ listing (low_stmts (shape_of l.s) (ctype l.exits.gives.now) (tstmts (map tstmt (drop l.a-index l.body))) l.out.next (length l.out.locals.items) l.exits.breaks (jump_of l.exits.continues)) ≡ map node l.initial.out.nodes.items ++ listing (low_stmts (shape_of l.s) (ctype l.exits.gives.now) (tstmts (map tstmt l.body)) l.initial.out.next (length l.initial.out.locals.items) l.exits.breaks (jump_of l.exits.continues));
+  locals : l.out.locals.items ++ stmts_sizes (shape_of l.s) (tstmts (map tstmt (drop l.a-index l.body))) ≡ l.initial.out.locals.items ++ stmts_sizes (shape_of l.s) (tstmts (map tstmt l.body));
+  temps : l.out.next + stmts_temps (tstmts (map tstmt (drop l.a-index l.body))) ≡ l.initial.out.next + stmts_temps (tstmts (map tstmt l.body));
+  local : length l.out.locals.items + length (stmts_sizes (shape_of l.s) (tstmts (map tstmt (drop l.a-index l.body)))) ≡ length l.initial.out.locals.items + length (stmts_sizes (shape_of l.s) (tstmts (map tstmt l.body)));
   few : statements_nodes (tstmts (map tstmt (drop l.a-index l.body))) ≤ 1000000;
-  on : l.fn.at.next ≤ l.here.next;
+  on : l.initial.out.next ≤ l.out.next;
 }
 
 abbrev pub invariant-labelled-loop-arm : goal.invariant-labelled-loop-arm
 invariant-labelled-loop-arm l = record {
-  nodes : map node l.out.items ++ arms_open l.met (map node l.inside.items) (shape_of l.s) (ctype l.exits.gives.now) l.t (tarms (map tarm (drop l.arm-index l.arms))) l.here.next l.here.local l.exits.breaks (jump_of l.exits.continues) ≡ map node l.initial.out.items ++ listing (low_arms (shape_of l.s) (ctype l.exits.gives.now) l.t (tarms (map tarm l.arms)) l.fn.at.next l.fn.at.local l.exits.breaks (jump_of l.exits.continues));
-  sizes : l.structures.items ++ arms_sizes (shape_of l.s) (tarms (map tarm (drop l.arm-index l.arms))) ≡ l.initial.structures.items ++ arms_sizes (shape_of l.s) (tarms (map tarm l.arms));
-  temps : l.here.next + arms_temps (tarms (map tarm (drop l.arm-index l.arms))) ≡ l.fn.at.next + arms_temps (tarms (map tarm l.arms));
-  local : l.here.local + length (arms_sizes (shape_of l.s) (tarms (map tarm (drop l.arm-index l.arms)))) ≡ l.fn.at.local + length (arms_sizes (shape_of l.s) (tarms (map tarm l.arms)));
+  nodes : map node l.nodes.items ++ arms_open l.met (map node l.inside.items) (shape_of l.s) (ctype l.exits.gives.now) l.t (tarms (map tarm (drop l.arm-index l.arms))) l.out.next (length l.out.locals.items) l.exits.breaks (jump_of l.exits.continues) ≡ listing (low_arms (shape_of l.s) (ctype l.exits.gives.now) l.t (tarms (map tarm l.arms)) l.initial.out.next (length l.initial.out.locals.items) l.exits.breaks (jump_of l.exits.continues));
+  kept : l.out.nodes ≡ l.initial.out.nodes;
+  locals : l.out.locals.items ++ arms_sizes (shape_of l.s) (tarms (map tarm (drop l.arm-index l.arms))) ≡ l.initial.out.locals.items ++ arms_sizes (shape_of l.s) (tarms (map tarm l.arms));
+  temps : l.out.next + arms_temps (tarms (map tarm (drop l.arm-index l.arms))) ≡ l.initial.out.next + arms_temps (tarms (map tarm l.arms));
+  local : length l.out.locals.items + length (arms_sizes (shape_of l.s) (tarms (map tarm (drop l.arm-index l.arms)))) ≡ length l.initial.out.locals.items + length (arms_sizes (shape_of l.s) (tarms (map tarm l.arms)));
   few : arms_nodes (tarms (map tarm (drop l.arm-index l.arms))) ≤ 1000000;
-  on : l.fn.at.next ≤ l.here.next;
+  on : l.initial.out.next ≤ l.out.next;
 }
 
 abbrev pub decreases-statement : goal.decreases-statement
@@ -36,6 +37,9 @@ decreases-statement l = 4 * statement_nodes (tstmt l.a.now)
 abbrev pub decreases-nested : goal.decreases-nested
 decreases-nested l = 4 * statement_nodes (tstmt l.a.now) + 1
 
+abbrev pub decreases-nested_other : goal.decreases-nested_other
+decreases-nested_other l = 4 * maybe_statement_nodes (other_of l.a) + 2
+
 abbrev pub decreases-other : goal.decreases-other
 decreases-other l = 4 * maybe_statement_nodes (other_of l.a) + 1
 
@@ -43,7 +47,7 @@ abbrev pub decreases-block : goal.decreases-block
 decreases-block l = 4 * statements_nodes (tstmts (map tstmt l.body.now)) + 2
 
 abbrev pub decreases-choice : goal.decreases-choice
-decreases-choice l = 4 * (statement_nodes (tstmt l.branches.0.now) + maybe_statement_nodes (other_of l.branches.1)) + 2
+decreases-choice l = 4 * (statement_nodes (tstmt l.branches.0.now) + maybe_statement_nodes (other_of l.branches.1)) + 3
 
 abbrev pub decreases-while_loop : goal.decreases-while_loop
 decreases-while_loop l = 4 * statement_nodes (tstmt l.body.now) + 2
@@ -55,10 +59,10 @@ abbrev pub decreases-for_loop : goal.decreases-for_loop
 decreases-for_loop l = 4 * (maybe_statement_nodes (other_of l.of.head.0) + statement_nodes (tstmt l.of.body.now)) + 2
 
 abbrev pub decreases-switch : goal.decreases-switch
-decreases-switch l = 4 * arms_nodes (tarms (map tarm l.of.arms.now)) + 2
+decreases-switch l = 4 * arms_nodes (tarms (map tarm l.of.arms.now)) + 3
 
 abbrev pub decreases-statements : goal.decreases-statements
 decreases-statements l = 4 * statements_nodes (tstmts (map tstmt l.body.now)) + 1
 
 abbrev pub decreases-labelled : goal.decreases-labelled
-decreases-labelled l = 4 * arms_nodes (tarms (map tarm l.arms.now)) + 1
+decreases-labelled l = 4 * arms_nodes (tarms (map tarm l.arms.now)) + 2

@@ -46,8 +46,9 @@ fn first_round(alloc: Global, m: Mid) -> Result<Mid, Memory>
 }
 
 /// The settled code: operators on known words are worked out, what an operator made of the same operands is moved, what is moved at once is put where it is
-/// moved, copies are used as what they are copies of, and what only puts something where nothing reads it is taken out, in rounds. Runs are kept, in no more work; one that strays may go on. Loads, stores, calls,
-/// loops, port operations and what makes or ends a local stay. The error is want of memory, and then the code given is dropped.
+/// moved, copies are used as what they are copies of, and what only puts something where nothing reads it is taken out, in rounds. Runs are kept, in no
+/// more work; one that strays may go on. Loads, stores, calls, loops, port operations and what makes or ends a local stay. The error is want of memory, and
+/// then the code given is dropped.
 #[tactic(auto, using(crate::proofs::Improving::round_falls, crate::proofs::Improving::improved))]
 pub fn improve(alloc: Global, m: Mid) -> Result<Mid, Memory>
     ensures improved { IfOk result (λ r. IsImprovedFrom (mid m) (mid r)) }

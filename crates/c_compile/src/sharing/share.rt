@@ -66,11 +66,7 @@ fn merged(
 }
 
 /// The choice in which parameters, too, stand at the places of the locals that take them, where there are such. It is tested as well.
-fn entered(
-    alloc: Global,
-    f: &Function<u32>,
-    given: &[Where],
-) -> Result<Option<Choice>, Memory> {
+fn entered(alloc: Global, f: &Function<u32>, given: &[Where]) -> Result<Option<Choice>, Memory> {
     let counts = counts(alloc, f)?;
     let single = singles(alloc, counts.as_slice())?;
     let mut at = given.to_vec(alloc)?;

@@ -132,7 +132,6 @@ module _ (text : List ℕ) (p : Project) (is : IsProject text p) (s : Checked) w
               cartridge = h.cartridge;
               cart_is = h.cart_is;
               map_is = h.map_is;
-              asm_is = h.asm_is;
               items_are = h.items_are;
               tokens_are = h.tokens_are ∙ ap (λ (places : Places). length places.tokens) source.of_unit.places;
             };

@@ -7,6 +7,7 @@ use Rattle.asset_pack.specs.declared.kind.Kind.TheVariants as kinds
 use Rattle.asset_pack.specs.Words.{IsBytes}
 use Rattle.asset_pack.specs.Texts.{Image, IsTexture, IsSound, texture_text, sound_text}
 use Rattle.asset_pack.specs.Reading.{texture_in, words_in}
+use Rattle.asm_items.specs.Written.{written}
 use Rattle.asm_reader.specs.Reading.{read}
 use Rattle.cart_format.specs.Cartridge.{Cartridge, IsCartridge, cart_text, total}
 use Rattle.c_tree.specs.View.{unit}
@@ -57,8 +58,7 @@ abbrev pub cartridge_of : (title : List ℕ) → ImageT → Assets → Cartridge
 cartridge_of title i a = record { title = title; program = i.words; textures = a.0; sounds = a.1; table = Some i.table }
 
 -- What was built of a project's text, from the files that are held: a cartridge with the project's title, an image of its program, and the textures
--- and sounds in the project's order; the map and the assembly text, with its items, of this image; and how many tokens its source stands for, with all
--- that it includes.
+-- and sounds in the project's order; the map and the items of this image; and how many tokens its source stands for, with all that it includes.
 pub record IsBuilt (m : Held) (project : List ℕ) (b : Built) : Type 0 where
   pub of : HasImage m project
   pub textures : List Image
@@ -68,7 +68,6 @@ pub record IsBuilt (m : Held) (project : List ℕ) (b : Built) : Type 0 where
   pub cartridge : IsCartridge (cartridge_of of.parts.title of.image (assets textures sounds))
   pub cart_is : b.cart ≡ cart_text (cartridge_of of.parts.title of.image (assets textures sounds))
   pub map_is : b.map ≡ of.image.map
-  pub asm_is : b.asm ≡ of.image.text
   pub items_are : b.items ≡ of.image.items
   pub tokens_are : b.tokens ≡ length of.parsed.places.tokens
 
@@ -90,9 +89,9 @@ Builds m project (Err errors.Memory) = Unit {0}
 Builds m project (Err (errors.Failed name)) = Unit {0}
 Builds m project (Err e) = IsUnbuilt m project e
 
--- the assembly text reads as the items
+-- the written form of the items, the program's assembly text, reads as them
 abbrev pub IsAsmText : Built → Type 0
-IsAsmText b = read b.asm ≡ Ok b.items
+IsAsmText b = read (written b.items) ≡ Ok b.items
 
 -- the bytes are those of a cartridge, which is read from them again
 abbrev pub IsCartText : List ℕ → Type 0

@@ -24,13 +24,12 @@ use mid_code::{Choice, Mid};
 use project_text::Map;
 use std::alloc::Global;
 
-/// The bytes of a cartridge, the map of its program, the program's assembly text, the items that this reads as, the mid code for which places were
-/// chosen, its choices, that of the start first, and the number of tokens that its source stands for, with all that it includes, at most 200,000.
+/// The bytes of a cartridge, the map of its program, the items whose written form is the program's assembly text, the mid code for which places were chosen,
+/// its choices, that of the start first, and the number of tokens that its source stands for, with all that it includes, at most 200,000.
 #[derive(Drop)]
 pub struct Built {
     pub cart: Seq<u8>,
     pub map: Map,
-    pub asm: Seq<u8>,
     pub items: Seq<AsmItem>,
     pub mid: Mid,
     pub choices: Seq<Choice>,
@@ -57,7 +56,7 @@ pub fn build_from<F: Files>(
     ensures reached { IfSome (F.held files.old) (λ m. FailsAt (IsReadBeside m project.now) result) }
     // The cartridge is one that is read again.
     ensures cartridge { IfOk result (λ b. IsCartText b.cart) }
-    // The assembly text reads as the items.
+    // The written form of the items, the program's assembly text, reads as them.
     ensures asm { IfOk result IsAsmText }
     ensures kinds { IfErr result (IsOfBuilding project.now) }
     ensures causes { HasCauses project.now result (counts F.faults F.misses F.overs files.old) (counts F.faults F.misses F.overs files.new) }
@@ -98,7 +97,7 @@ pub fn build<F: Files>(alloc: Global, files: &mut F, project: &[u8]) -> Result<B
     ensures reached { IfSome (F.held files.old) (λ m. FailsAt (IsReadToBuild m project.now) result) }
     // The cartridge is one that is read again.
     ensures cartridge { IfOk result (λ b. IsCartText b.cart) }
-    // The assembly text reads as the items.
+    // The written form of the items, the program's assembly text, reads as them.
     ensures asm { IfOk result IsAsmText }
     ensures kinds { IfErr result (CanCome project.now) }
     ensures causes { HasCauses project.now result (counts F.faults F.misses F.overs files.old) (counts F.faults F.misses F.overs files.new) }

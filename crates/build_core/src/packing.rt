@@ -90,7 +90,6 @@ pub fn packed(
     Ok(Built {
         cart: Seq::from_vec(bytes),
         map: made.map,
-        asm: Seq::from_vec(made.text),
         items: Seq::from_vec(made.items),
         mid: made.mid,
         choices: Seq::from_vec(made.choices),

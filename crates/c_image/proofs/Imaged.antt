@@ -91,10 +91,9 @@ module _ (p : ProgramT) (places : Places) (starts : List ℕ) (c : CompiledT) (w
     globals_are : global_addresses m ≡ addresses 0 (map (λ g. g.1) p.globals)
     globals_are = ap global_addresses map_is ∙ addresses_are p.globals 0 (let total = sound.globals in omega (arith, total))
 
-    pub is_image : (text : List ℕ) (table : LineTable) → text ≡ written c.items → read text ≡ Ok c.items → table ≡ table_of (address_in labels) p.functions os → length words ≤ 33554432
-        → IsImageOf p places starts (record { words = words; map = m; text = text; items = c.items; table = table })
-    is_image text table spelled reads table_is short = record {
-      spelled = spelled;
+    pub is_image : (table : LineTable) → read (written c.items) ≡ Ok c.items → table ≡ table_of (address_in labels) p.functions os → length words ≤ 33554432
+        → IsImageOf p places starts (record { words = words; map = m; items = c.items; table = table })
+    is_image table reads table_is short = record {
       reads = reads;
       faultless = compiled.emitted.faultless;
       readable = compiled.emitted.readable;
@@ -110,8 +109,8 @@ module _ (p : ProgramT) (places : Places) (starts : List ℕ) (c : CompiledT) (w
       is_table = subst (λ t. is_table (length words) t ≡ true) (sym table_is) table_holds;
     }
 
-    pub is_mid : (text : List ℕ) (table : LineTable) → IsMidOf p (record { words = words; map = m; text = text; items = c.items; table = table }) c.mid c.choices
-    is_mid text table = record {
+    pub is_mid : (table : LineTable) → IsMidOf p (record { words = words; map = m; items = c.items; table = table }) c.mid c.choices
+    is_mid table = record {
       keeps = subst (λ sizes. KeepsRuns (c_runs p sizes) (mid_runs c.mid sizes)) (sym frames_are) compiled.meaning.keeps;
       promoted = compiled.promoted;
       settled = compiled.settled;

@@ -25,11 +25,10 @@ use Rattle.c_image.specs.Mapping.{map_of}
 use Rattle.c_image.specs.Lines.{table_of}
 use Rattle.c_image.specs.declared.imaging.Image.{Image}
 
--- The words of a program, its map, its assembly text, the items that this is written from, and its line table.
+-- The words of a program, its map, the items whose written form is its assembly text, and its line table.
 pub record ImageT : Type 0 where
   pub words : List ℕ
   pub map : Map
-  pub text : List ℕ
   pub items : List AsmItem
   pub table : LineTable
 
@@ -37,7 +36,6 @@ abbrev pub image : Image → ImageT
 image i = record {
   words = i.words.items;
   map = i.map;
-  text = i.text.items;
   items = i.items.items;
   table = record { files = i.files.items; rows = i.rows.items };
 }
@@ -59,9 +57,8 @@ pub record AreStarts (p : ProgramT) (places : Places) (starts : List ℕ) : Type
 
 -- The image of a program whose functions begin at these tokens.
 pub record IsImageOf (p : ProgramT) (places : Places) (starts : List ℕ) (i : ImageT) : Type 0 where
-  -- the text is the written form of the items and reads as them, and the words are those that these are placed as
-  pub spelled : i.text ≡ written i.items
-  pub reads : read i.text ≡ Ok i.items
+  -- the written form of the items reads as them, and the words are those that they are placed as
+  pub reads : read (written i.items) ≡ Ok i.items
   -- labels are distinct and all there; registers, ports and numbers are in their ranges
   pub faultless : fault_of i.items ≡ None
   pub readable : AreReadable i.items

@@ -11,7 +11,7 @@ ghost use Rattle.c_image.specs.MidImages.{IsMidOf};
 ghost use Rattle.c_image.specs.Lines.{files_behind, rows_of};
 ghost use Rattle.c_image.specs.Mapping.{map_of};
 
-use crate::assembling::{Assembled, assemble_items};
+use crate::assembling::assemble_items;
 use crate::lines::{files_of, rows_of};
 use crate::mapping::map_of;
 use crate::naming::labels_in;
@@ -27,13 +27,12 @@ use mid_code::{Choice, Mid};
 use project_text::Map;
 use std::alloc::Global;
 
-/// The words of a program, its map, its assembly text, the items that this is the written form of, the mid code for which places were chosen, the
-/// choices, that of the start first; and the files and rows of its line table.
+/// The words of a program, its map, the items whose written form is its assembly text, the mid code for which places were chosen, the choices, that of the
+/// start first; and the files and rows of its line table.
 #[derive(Drop)]
 pub struct Image {
     pub words: Vec<u32>,
     pub map: Map,
-    pub text: Vec<u8>,
     pub items: Vec<AsmItem>,
     pub mid: Mid,
     pub choices: Vec<Choice>,
@@ -86,8 +85,7 @@ fn image_compiled(
     ensures mid { IfOk result (λ i. IsMidOf (program checked.now) (image i) (mid i.mid) (places_of i.choices.items)) }
 {
     programs_are_sound(checked);
-    let Assembled { text, placement } = assemble_items(alloc, &made.items)?;
-    let Placement { words, labels } = placement;
+    let Placement { words, labels } = assemble_items(alloc, &made.items)?;
     let words = words.into_vec();
     let sizes = made.placed.frames().sizes.as_slice();
     let Tables { map, files, rows } = tables_of(
@@ -108,7 +106,6 @@ fn image_compiled(
     Ok(Image {
         words,
         map,
-        text,
         items,
         mid,
         choices,

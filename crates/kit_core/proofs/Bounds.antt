@@ -7,6 +7,7 @@ use Rattle.kit_base.specs.Held.{Held}
 use Rattle.kit_base.specs.Effects.{all_done}
 use Rattle.kit_base.specs.Outside.{due}
 use Rattle.kit_base.specs.declared.outside.FileErr.{FileErr}
+use Rattle.asm_items.specs.Written.{written}
 use Rattle.asm_items.specs.declared.item.AsmItem.{AsmItem}
 use Rattle.asm_reader.specs.Readable.{AreReadable}
 use Rattle.asm_reader.specs.Reading.{read}
@@ -59,15 +60,15 @@ bounds_of project text cart map_name text_name b lines (Some m) h told = record 
 -- ---- the files
 
 module _ (m : Held) (cart map_name text_name : List ℕ) (b : Built) (after : Option Held) (three : AreThree cart map_name text_name) (is : after ≡ all_done (bounds_effects cart map_name text_name b) (Some m)) where
-  text_there : IsSomeAnd after (λ files. get files text_name ≡ Some b.asm)
-  text_there = subst (λ h. IsSomeAnd h (λ files. get files text_name ≡ Some b.asm)) (sym is) (get_written _ text_name b.asm)
+  text_there : IsSomeAnd after (λ files. get files text_name ≡ Some (written b.items))
+  text_there = subst (λ h. IsSomeAnd h (λ files. get files text_name ≡ Some (written b.items))) (sym is) (get_written _ text_name (written b.items))
 
   map_there : IsSomeAnd after (λ files. get files map_name ≡ Some (map_text b.map))
-  map_there = subst (λ h. IsSomeAnd h (λ files. get files map_name ≡ Some (map_text b.map))) (sym is) (get_unwritten _ text_name b.asm map_name three.map_text ∙ get_written _ map_name (map_text b.map))
+  map_there = subst (λ h. IsSomeAnd h (λ files. get files map_name ≡ Some (map_text b.map))) (sym is) (get_unwritten _ text_name (written b.items) map_name three.map_text ∙ get_written _ map_name (map_text b.map))
 
   cart_there : IsSomeAnd after (λ files. get files cart ≡ Some b.cart)
   cart_there = subst (λ h. IsSomeAnd h (λ files. get files cart ≡ Some b.cart)) (sym is)
-      (get_unwritten _ text_name b.asm cart three.cart_text ∙ get_unwritten _ map_name (map_text b.map) cart three.cart_map ∙ get_written m cart b.cart)
+      (get_unwritten _ text_name (written b.items) cart three.cart_text ∙ get_unwritten _ map_name (map_text b.map) cart three.cart_map ∙ get_written m cart b.cart)
 
 -- ---- the calls
 
@@ -107,8 +108,8 @@ StayingLaw =
     → (times : ℕ) (globals : List ℕ) (meaning : Meaning) → AgreesWithin times globals meaning words → (names : List (List ℕ)) (bounds : List Bound) → AllZip (IsBoundOf items) names bounds
     → StayWithin globals meaning words (map (λ name. address_in labels (label_of_function name)) names) bounds
 
-text_reads : (m : Held) (text : List ℕ) (b : Built) → IsBuilt m text b → read b.asm ≡ Ok b.items
-text_reads m text b built = ap read built.asm_is ∙ built.of.image_is.reads ∙ ap Ok (sym built.items_are)
+text_reads : (m : Held) (text : List ℕ) (b : Built) → IsBuilt m text b → read (written b.items) ≡ Ok b.items
+text_reads m text b built = (let e = built.items_are in λ i. read (written (e i))) ∙ built.of.image_is.reads ∙ ap Ok (sym built.items_are)
 
 module _ (stay : StayingLaw) (back : ReadBack) where
   stays : (m : Held) (text : List ℕ) (b : Built) (built : IsBuilt m text b) (bounds : List Bound) → AllZip (IsBoundOf b.items) (function_names b.map) bounds

@@ -6,6 +6,7 @@ use Rattle.kit_base.specs.Held.{Held}
 use Rattle.kit_base.specs.Effects.{Effect, written_file}
 use Rattle.kit_base.specs.Outside.{due}
 use Rattle.kit_base.specs.declared.outside.FileErr.{FileErr}
+use Rattle.asm_items.specs.Written.{written}
 use Rattle.build_core.specs.declared.building.Built.{Built}
 use Rattle.gen_source.specs.Source.{project_text, source_text}
 use Rattle.project_text.specs.MapText.{map_text}
@@ -86,14 +87,14 @@ module _ (project cart map_name text_name : List ℕ) (three : AreThree cart map
 
   bounds_fit : (b : Built) → Fits bounded (bounds_effects cart map_name text_name b)
   bounds_fit b = record {
-    once = outputs_once [] cart map_name b (written_file text_name b.asm) refl (not_among map_name cart [] (other_way cart map_name three.cart_map) refl)
-        (written_once (map_name ∷ cart ∷ []) text_name b.asm []
+    once = outputs_once [] cart map_name b (written_file text_name (written b.items)) refl (not_among map_name cart [] (other_way cart map_name three.cart_map) refl)
+        (written_once (map_name ∷ cart ∷ []) text_name (written b.items) []
         (not_among text_name map_name (cart ∷ []) (other_way map_name text_name three.map_text) (not_among text_name cart [] (other_way cart text_name three.cart_text) refl)) tt);
     others = λ name h.
         let later = differs_later name cart (map_name ∷ text_name ∷ []) h in
         let last = differs_first name text_name [] (differs_later name map_name (text_name ∷ []) later) in
         spares_unmade name (bounds_effects cart map_name text_name b)
-        (spares_both name (outputs_of cart map_name b) (written_file text_name b.asm)
+        (spares_both name (outputs_of cart map_name b) (written_file text_name (written b.items))
         (outputs_spared name cart map_name b (differs_first name cart (map_name ∷ text_name ∷ []) h) (differs_first name map_name (text_name ∷ []) later)) (last, (last, tt)));
   }
 

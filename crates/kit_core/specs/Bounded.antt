@@ -5,6 +5,7 @@ use Rattle.std.specs.List.{AllZip}
 use Rattle.kit_base.specs.Held.{Held}
 use Rattle.kit_base.specs.Effects.{all_done}
 use Rattle.kit_base.specs.Outside.{due}
+use Rattle.asm_items.specs.Written.{written}
 use Rattle.asm_reader.specs.Reading.{read}
 use Rattle.cart_format.specs.Cartridge.{Cartridge}
 use Rattle.cart_format.specs.Reading.{cart_of}
@@ -41,8 +42,8 @@ pub record IsBoundedInto (project cart map_name text_name : List ℕ) (held : He
   pub outputs : after ≡ all_done (bounds_effects cart map_name text_name built) (Some held)
   pub cart_stands : IsSomeAnd after (λ files. get files cart ≡ Some built.cart)
   pub map_stands : IsSomeAnd after (λ files. get files map_name ≡ Some (map_text built.map))
-  pub text_stands : IsSomeAnd after (λ files. get files text_name ≡ Some built.asm)
-  pub reads : read built.asm ≡ Ok built.items
+  pub text_stands : IsSomeAnd after (λ files. get files text_name ≡ Some (written built.items))
+  pub reads : read (written built.items) ≡ Ok built.items
   pub bounds : List Bound
   pub exact : AllZip (IsBoundOf built.items) (function_names built.map) bounds
   pub numbered : (depth n : ℕ) (f : TFunctionT) → slice_get is_built.of.program.functions n ≡ Some f → IsLoopFree is_built.of.program depth f

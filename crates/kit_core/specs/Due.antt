@@ -5,6 +5,7 @@ use Rattle.kit_base.specs.Effects.{Effect, written_file}
 use Rattle.kit_base.specs.Outside.{due}
 use Rattle.kit_base.specs.declared.outside.FileErr.{FileErr}
 use Rattle.kit_base.specs.declared.failure.Failure.TheVariants as failures
+use Rattle.asm_items.specs.Written.{written}
 use Rattle.cart_format.specs.Cartridge.{Cartridge}
 use Rattle.cart_format.specs.Reading.{cart_of}
 use Rattle.build_core.specs.declared.error.BuildErr.{BuildErr}
@@ -161,7 +162,7 @@ function_names m = map (λ row. row.0) m.frames
 
 -- the outputs of what was built, then its program's assembly text
 abbrev pub bounds_effects : (cart map_name text_name : List ℕ) → Built → List Effect
-bounds_effects cart map_name text_name built = outputs_of cart map_name built ++ written_file text_name built.asm
+bounds_effects cart map_name text_name built = outputs_of cart map_name built ++ written_file text_name (written built.items)
 
 -- and a line for each function
 abbrev pub bounds_work : (cart map_name text_name : List ℕ) → Built → (lines : List ℕ) → Work

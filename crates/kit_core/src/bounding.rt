@@ -9,6 +9,7 @@ ghost use Rattle.kit_core.specs.Limits.{IsLarge};
 ghost use Rattle.kit_core.specs.Due.{bounds_due, bounds_effects, build_reads, function_names};
 
 use crate::building::{build_text, made_outputs, write_made};
+use asm_items::write_asm;
 use build_core::Built;
 use cycle_bound::tell_bounds;
 use kit_base::{Files, Memory as OutOfMemory, Name};
@@ -49,8 +50,9 @@ fn write_three<F: Files>(
 {
     let outputs = made_outputs(alloc, cart, map, built)?;
     let text_name = Name::new(alloc, text)?;
+    let assembly = write_asm(alloc, built.items.as_slice())?;
     write_made(files, cart, map, built, outputs)?;
-    write_named(files, text_name, text, built.asm.as_slice())
+    write_named(files, text_name, text, &assembly)
 }
 
 /// `bounds project cart map text`. The lines of the functions are printed after it.

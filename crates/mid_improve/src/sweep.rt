@@ -61,6 +61,13 @@ fn sweep_node(
         Node::Do(o) => sweep_op(alloc, count, o, m, s),
         Node::Choose(p, a, b) => {
             let behind = s.kept(alloc)?;
+            let Some(_) = b.as_slice().split_first() else {
+                let first = sweep_nodes(alloc, count, a.as_slice(), &*m, s, heads, next)?;
+                s.join(&behind);
+                s.put(*p as usize);
+                let second = Seq::from_vec(Vec::new(alloc));
+                return Ok(Some(Node::Choose(*p, Seq::from_vec(first), second)));
+            };
             let second = sweep_nodes(alloc, count, b.as_slice(), &*m, s, heads, next)?;
             let other = s.kept(alloc)?;
             s.restore(&behind);

@@ -77,6 +77,12 @@ fn walk_node(
         }
         Node::Choose(p, a, b) => {
             let behind = s.kept(alloc)?;
+            let Some(_) = b.as_slice().split_first() else {
+                let first = walk_nodes(alloc, count, a.as_slice(), &*m, s, heads, next)?;
+                s.join(&behind);
+                s.put(*p as usize);
+                return Ok(first);
+            };
             let second = walk_nodes(alloc, count, b.as_slice(), &*m, s, heads, next)?;
             let other = s.kept(alloc)?;
             s.restore(&behind);

@@ -37,6 +37,12 @@ fn before_node(
         }
         Node::Choose(p, a, b) => {
             let behind = s.kept(alloc)?;
+            let Some(_) = b.as_slice().split_first() else {
+                let after = before_nodes(alloc, a.as_slice(), &*m, s, heads, next)?;
+                s.join(&behind);
+                s.put(*p as usize);
+                return Ok(after);
+            };
             let between = before_nodes(alloc, b.as_slice(), &*m, s, heads, next)?;
             let other = s.kept(alloc)?;
             s.restore(&behind);

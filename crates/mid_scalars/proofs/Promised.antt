@@ -1,5 +1,5 @@
 -- What `promote` promises holds of the promoted program.
-use Rattle.std.proofs.Common.{◌≡◌, ℕ, suc, ◌+◌, ◌-◌, ◌<◌, ◌≤◌, Bool, true, false, cond, ltb, List, [], ◌∷◌, map, length, get_or, Option, Some, None, refl, sym, ap, ◌∙◌, subst, arith}
+use Rattle.std.proofs.Common.{◌≡◌, ℕ, suc, ◌+◌, ◌-◌, ◌<◌, ◌≤◌, Bool, true, false, cond, eqb, ltb, List, [], ◌∷◌, map, length, get_or, Option, Some, None, refl, sym, ap, ◌∙◌, subst, arith}
 use Rattle.mid_code.specs.Code.{NodesT, FunctionT, CodeT}
 use Rattle.mid_code.specs.States.{function_at, no_function}
 use Rattle.mid_code.specs.Invariants.{AllOf, IsFunction, IsTemporary, IsMid}
@@ -8,14 +8,15 @@ use Rattle.mid_code.specs.Plain.{IsPlain}
 use Rattle.mid_scalars.specs.inner.Plan.{promoted_nodes}
 use Rattle.mid_scalars.specs.inner.Table.{flags, trues, kept, falses_before, kind_in, trues_before, plan_of, promoted_function, promoted_functions, promoted}
 use Rattle.std.specs.Option.{option_map_or}
+use Rattle.std.specs.List.{list_any}
 use Rattle.std.proofs.lemmas.Bool.{lt-ltb}
 use Rattle.mid_scalars.specs.declared.table.Table.{Table}
 use Rattle.mid_scalars.specs.inner.Rewriting.{addressed, plan_by}
-use Rattle.mid_scalars.specs.inner.Tabled.{IsTableOf}
+use Rattle.mid_scalars.specs.inner.Tabled.{falses, IsTableOf}
 use Rattle.mid_scalars.specs.inner.Alone.{alone, promoted_alone, ArePromotable}
 use Rattle.mid_scalars.specs.PromotedFrom.{Renumbered, IsPromotedFunction, EachPromoted, IsPromotedFrom}
 use Rattle.mid_scalars.proofs.Planned.{flag_plain, kept_in, kept_at, moved_one}
-use Rattle.mid_scalars.proofs.Plainly.{found_plain, promote_same, promote_counts}
+use Rattle.mid_scalars.proofs.Plainly.{AllFalse, no_flags, same_flags, found_plain, promote_same, promote_counts}
 use Rattle.mid_scalars.proofs.Promotes.{promote_keeps, promote_works, promote_lighter}
 use Rattle.mid_scalars.proofs.NonePlain.{promote_leaves_none, promote_words, promote_fewer_or_same}
 use Rattle.mid_scalars.proofs.MidAgain.{promote_adds_none, promote_mid}
@@ -70,6 +71,26 @@ table_long f t is = flags_long f t.plain.items is.plain
 
 pub table_least : (f : FunctionT ℕ) (t : Table) → IsTableOf f t → t.kept ≤ length t.plain.items
 table_least f t is = let a = falses_few (flags f) in let b = ap length is.plain in let d = is.kept in omega (arith, a, b, d)
+
+-- ---- a function without plain locals
+
+pub stays_alone : (f : FunctionT ℕ) → AllFalse (flags f) → f ≡ promoted_alone f
+stays_alone f h = sym (same_flags (alone f) 0 h)
+
+pub no_single_stays : (f : FunctionT ℕ) → list_any (λ n. eqb n 1) f.locals ≡ false → f ≡ promoted_alone f
+no_single_stays f e = stays_alone f (no_flags f e)
+
+all_false : (bs : List Bool) → falses bs ≡ length bs → AllFalse bs
+all_false [] e = tt
+all_false (true ∷ bs) e = absurd (let h = falses_few bs in omega (arith, h, e))
+all_false (false ∷ bs) e = (refl, all_false bs (omega (arith, e)))
+
+pub all_kept_stays : (f : FunctionT ℕ) (t : Table) → IsTableOf f t → length t.plain.items - t.kept ≡ 0 → f ≡ promoted_alone f
+all_kept_stays f t is e =
+    let long = ap length is.plain in
+    let kept_is = is.kept in
+    let few = falses_few (flags f) in
+    stays_alone f (all_false (flags f) (omega (arith, e, long, kept_is, few)))
 
 -- ---- what is asked of functions
 

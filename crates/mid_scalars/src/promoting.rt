@@ -16,7 +16,8 @@ pub fn promote(alloc: Global, m: Mid) -> Result<Mid, Memory>
 {
     mid_code_is_sound(&m);
     let of = m.into_code();
-    let functions = promote_functions(alloc, of.functions.as_slice())?;
+    let mut functions = of.functions.into_vec();
+    promote_functions(alloc, &mut functions)?;
     Ok(Mid::new(Code {
         start: of.start,
         functions: Seq::from_vec(functions),

@@ -1,8 +1,5 @@
 // Slices, element by element.
-ghost use Rattle.std.specs.Prelude.{◌≡◌, ◌∷◌, [], IfOk, IfSome, IfNone};
-
-use kit_base::Memory;
-use std::alloc::Global;
+ghost use Rattle.std.specs.Prelude.{◌≡◌, ◌∷◌, [], IfSome, IfNone};
 
 /// The first element and those behind it.
 pub(crate) fn next<T>(xs: &[T]) -> Option<(&T, &[T])>
@@ -10,10 +7,4 @@ pub(crate) fn next<T>(xs: &[T]) -> Option<(&T, &[T])>
     ensures none { IfNone result (xs.now ≡ []) }
 {
     xs.split_first()
-}
-
-pub(crate) fn copy_words(alloc: Global, words: &[u32]) -> Result<Vec<u32>, Memory>
-    ensures { IfOk result (λ r. r.items ≡ words.now) }
-{
-    Ok(words.to_vec(alloc)?)
 }

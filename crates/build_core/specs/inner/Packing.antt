@@ -10,6 +10,5 @@ pub record IsPackedFrom (title : List ℕ) (i : ImageT) (a : Assets) (tokens : �
   pub cartridge : IsCartridge (cartridge_of title i a)
   pub cart_is : b.cart ≡ cart_text (cartridge_of title i a)
   pub map_is : b.map ≡ i.map
-  pub asm_is : b.asm ≡ i.text
   pub items_are : b.items ≡ i.items
   pub tokens_are : b.tokens ≡ tokens

@@ -15,18 +15,17 @@ use Rattle.c_image.proofs.imaging.image_compiled.Goals as goal
 pub returns : goal.returns
 returns c =
     let words = c.into_vec-words.result.items in
-    let labels = c.in_ok-text.field-0.placement.labels in
+    let labels = c.in_ok-words.field-0.labels in
     let made = compiled c.args.made in
     let stand : Placed made.items words labels = search rules in
-    let spelled : c.in_ok-text.field-0.text.items ≡ written made.items = search rules in
-    let reads : read c.in_ok-text.field-0.text.items ≡ Ok made.items = search rules in
+    let reads : read (written made.items) ≡ Ok made.items = search rules in
     let few : length words ≤ 33554432 = search rules in
     let map_is : c.in_ok-map.field-0.map ≡ map_of (program c.args.checked.now) made.placed.frames (length words) (address_in labels) = search rules in
     let files : c.in_ok-map.field-0.files.items ≡ files_behind [] (map (place_at c.args.places.now) c.args.starts.now) = search rules in
     let rows : c.in_ok-map.field-0.rows.items ≡ rows_of (address_in labels) (files_behind [] (map (place_at c.args.places.now) c.args.starts.now)) (program c.args.checked.now).functions (map (place_at c.args.places.now) c.args.starts.now) = search rules in
     record {
       image = is_image (program c.args.checked.now) c.args.places.now c.args.starts.now made words labels c.requires.compiled c.requires.starts c.programs_are_sound.ensures.sound stand
-          c.in_ok-map.field-0.map map_is c.in_ok-text.field-0.text.items _ spelled reads (λ i. record { files = files i; rows = rows i }) few;
+          c.in_ok-map.field-0.map map_is _ reads (λ i. record { files = files i; rows = rows i }) few;
       mid = is_mid (program c.args.checked.now) c.args.places.now c.args.starts.now made words labels c.requires.compiled c.requires.starts c.programs_are_sound.ensures.sound stand
-          c.in_ok-map.field-0.map map_is c.in_ok-text.field-0.text.items _;
+          c.in_ok-map.field-0.map map_is _;
     }

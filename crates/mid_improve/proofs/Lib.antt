@@ -21,6 +21,7 @@ pub mod SweepProgram
 pub mod SweepLasts
 pub mod SweepMid
 pub mod SweepJoined
+pub mod SweepPlaced
 pub mod SinkPass
 pub mod SinkPlaced
 pub mod SinkOps

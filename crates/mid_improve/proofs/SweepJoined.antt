@@ -1,6 +1,5 @@
 -- What code in memory has is what the sweep leaves.
-use Rattle.std.proofs.Common.{◌≡◌, ℕ, ◌<◌, lt-ltb, Bool, true, false, cond, eqb, ◌||◌, List, [], ◌∷◌, ◌++◌, map, reverse, option_map, option_to_list, Option, Some, None, refl, ap, sym, ◌∙◌}
-use Rattle.std.proofs.lemmas.List.{reverse-append}
+use Rattle.std.proofs.Common.{◌≡◌, ℕ, ◌<◌, lt-ltb, Bool, true, false, cond, eqb, ◌||◌, List, [], ◌∷◌, map, Option, Some, None, refl, ap, sym, ◌∙◌}
 use Rattle.mid_code.specs.declared.node.Op.{Op}
 use Rattle.mid_code.specs.declared.node.Op.TheVariants as op
 use Rattle.mid_code.specs.declared.node.Node.{Node}
@@ -150,12 +149,13 @@ module _ (n : ℕ) where
   abbrev pub Below : Set → Set → Type 0
   Below v w = (y : ℕ) → y < n → v y ≡ w y
 
-  pub block_left : (ls ks : Labels) (x : NodeT ℕ) (b : ListT ℕ) (s u v : Set) → x ≡ BlockN b → ((y : ℕ) → ks y ≡ label false (s y) ∷ ls y) → u ≡ s → Below v (list_left n ks b u) → Below v (node_left n ls x s)
-  block_left ls ks x b s u v e k us a = λ y h. a y h ∙ (λ i. list_left n (λ q. k q i) b (us i) y) ∙ sym (ap (λ z. node_left n ls z s y) e)
+  pub stays : (ls : Labels) (x r q z : NodeT ℕ) (s : Set) → x ≡ z → r ≡ q → Some q ≡ node_swept n ls z s → Some r ≡ node_swept n ls x s
+  stays ls x r q z s e f g = ap Some f ∙ g ∙ sym (ap (λ k. node_swept n ls k s) e)
 
-  pub block_swept : (ls ks : Labels) (x r : NodeT ℕ) (b : ListT ℕ) (s u : Set) (inside : List (Node ℕ)) → x ≡ BlockN b → ((y : ℕ) → ks y ≡ label false (s y) ∷ ls y) → u ≡ s → r ≡ BlockN (listed (map node inside))
-      → map node inside ≡ list_swept n ks b u → Some r ≡ node_swept n ls x s
-  block_swept ls ks x r b s u inside e k us f m = ap Some f ∙ (λ i. Some (BlockN (listed (m i)))) ∙ (λ i. Some (BlockN (listed (list_swept n (λ q. k q i) b (us i))))) ∙ sym (ap (λ z. node_swept n ls z s) e)
+  pub choice_swept : (ls : Labels) (x r : NodeT ℕ) (p : ℕ) (a b : ListT ℕ) (s u : Set) (first second : List (Node ℕ)) → x ≡ ChooseN p a b → r ≡ ChooseN p (listed (map node first)) (listed (map node second)) → u ≡ s
+      → map node first ≡ list_swept n ls a u → map node second ≡ list_swept n ls b s → Some r ≡ node_swept n ls x s
+  choice_swept ls x r p a b s u first second e f us g h =
+      ap Some f ∙ (λ i. Some (ChooseN p (listed (g i)) (listed (h i)))) ∙ ap (λ z. Some (ChooseN p (listed (list_swept n ls a z)) (listed (list_swept n ls b s)))) us ∙ sym (ap (λ z. node_swept n ls z s) e)
 
   pub loop_left : (ls ks : Labels) (x : NodeT ℕ) (b : ListT ℕ) (s u v : Set) → x ≡ LoopN b → AgreeIn n ks (in_loop (live_set (in_block s ls) (joined b) s) s ls) → u ≡ s → Below v (list_left n ks b u) → Below v (node_left n ls x s)
   loop_left ls ks x b s u v e k us a =
@@ -172,19 +172,19 @@ module _ (n : ℕ) where
   pub left_step : (ls : Labels) (x : NodeT ℕ) (rest : ListT ℕ) (s u : Set) (v : Set) → Agree n u (list_left n ls rest s) → Agree n v (node_left n ls x u) → Agree n v (list_left n ls (MoreN x rest) s)
   left_step ls x rest s u v a b = λ y h. b y h ∙ node_left_same ls x u (list_left n ls rest s) a y h
 
-  add_front : (found : List (Node ℕ)) (kept : Option (Node ℕ)) → map node (reverse (found ++ option_to_list kept)) ≡ maybe_before (option_map node kept) (map node (reverse found))
-  add_front found None = ap (λ l. map node (reverse l)) (append-nil found)
-    where
-      append-nil : (xs : List (Node ℕ)) → xs ++ [] ≡ xs
-      append-nil [] = refl
-      append-nil (x ∷ xs) = ap (λ l. x ∷ l) (append-nil xs)
-  add_front found (Some x) = ap (map node) (reverse-append found (x ∷ []))
+  -- a node in front of those that stay
+  pub stays_step : (ls : Labels) (x : NodeT ℕ) (rest : ListT ℕ) (s u : Set) (front : Option (NodeT ℕ)) (found more : List (NodeT ℕ)) → Agree n u (list_left n ls rest s) → front ≡ node_swept n ls x u → more ≡ maybe_before front found
+      → found ≡ list_swept n ls rest s → more ≡ list_swept n ls (MoreN x rest) s
+  stays_step ls x rest s u front found more a e m f =
+      m ∙ (λ i. maybe_before ((e ∙ node_swept_same ls ls x u (list_left n ls rest s) (λ y h. refl) a) i) (f i))
 
-  pub swept_step : (ls : Labels) (x : NodeT ℕ) (rest : ListT ℕ) (s u : Set) (found more : List (Node ℕ)) (kept : Option (Node ℕ)) → Agree n u (list_left n ls rest s) → option_map node kept ≡ node_swept n ls x u → more ≡ found ++ option_to_list kept
-      → map node (reverse found) ≡ list_swept n ls rest s → map node (reverse more) ≡ list_swept n ls (MoreN x rest) s
-  swept_step ls x rest s u found more kept a e m f =
-      ap (λ l. map node (reverse l)) m ∙ add_front found kept
-      ∙ (λ i. maybe_before ((e ∙ node_swept_same ls ls x u (list_left n ls rest s) (λ y h. refl) a) i) (f i))
+  -- ---- an operation
+
+  pub not_wanted_left : (ls : Labels) (x : NodeT ℕ) (o : Op ℕ) (s : Set) → x ≡ DoN o → op_wanted n o s ≡ false → (y : ℕ) → s y ≡ node_left n ls x s y
+  not_wanted_left ls x o s e w y = sym (ap (λ z. node_left n ls z s y) e ∙ ap (λ b. cond b (is_live y (ls y) (op_before o Stop) (s y)) (s y)) w)
+
+  pub wanted_left : (ls : Labels) (x : NodeT ℕ) (o : Op ℕ) (s : Set) → x ≡ DoN o → op_wanted n o s ≡ true → (y : ℕ) (j : Bool) → j ≡ is_live y (ls y) (op_before o Stop) (s y) → j ≡ node_left n ls x s y
+  wanted_left ls x o s e w y j h = h ∙ sym (ap (λ z. node_left n ls z s y) e ∙ ap (λ b. cond b (is_live y (ls y) (op_before o Stop) (s y)) (s y)) w)
 
 -- the nodes of a body
 pub swept_joined : (n : ℕ) (ns ms : List (Node ℕ)) (ls : Labels) (s : Set) → ((y : ℕ) → ls y ≡ []) → ((y : ℕ) → s y ≡ false) → map node ms ≡ list_swept n ls (listed (map node ns)) s → nodes ms ≡ swept n no_labels (nodes ns) none_live

@@ -1,11 +1,12 @@
 // The sweep: operations that only put something where nothing reads it are taken out.
-ghost use Rattle.std.specs.Prelude.{◌≡◌, ℕ, ◌+◌, ◌<◌, ◌≤◌, ◌++◌, length, map, option_map, reverse, option_to_list, IfOk, OnOk, []};
-ghost use Rattle.mid_code.specs.Functions.{function, listed, node};
+ghost use Rattle.std.specs.Prelude.{◌≡◌, ℕ, ◌+◌, ◌<◌, ◌≤◌, cond, drop, length, map, Some, None, IfOk, OnOk};
+ghost use Rattle.mid_code.specs.Functions.{BlockN, LoopN, function, listed, node};
 ghost use Rattle.mid_code.specs.Whole.{mid};
 ghost use Rattle.mid_live.specs.Sets.{on, room};
 ghost use Rattle.mid_live.specs.Labels.{labels_of};
 ghost use Rattle.mid_live.specs.Heads.{node_loops, list_loops, NodeTold, ListTold};
 ghost use Rattle.mid_improve.specs.inner.Sweep.{swept_function};
+ghost use Rattle.mid_improve.specs.inner.Wanted.{op_wanted};
 ghost use Rattle.mid_improve.specs.inner.SweepListed.{node_left, list_left, node_swept, list_swept};
 ghost use Rattle.mid_improve.specs.inner.SweptFrom.{IsSweptFrom};
 
@@ -15,134 +16,194 @@ use mid_code::laws::mid_code_is_sound;
 use mid_code::{Code, Function, Mid, Node, Op};
 use mid_live::{
     Head, Kept, Labels, Live, at_begin, at_end, at_return, before_op, head_of, heads_in, nested,
-    outside, told_each,
+    outside,
 };
 use std::alloc::Global;
+use std::mem;
 
-/// The operation, where it is wanted; and then the set becomes what is live before it.
-fn sweep_op(
-    alloc: Global,
-    count: u32,
-    o: &Op<u32>,
-    m: &Labels,
-    s: &mut Live,
-) -> Result<Option<Node<u32>>, Memory>
-    ensures len { OnOk result (length s.new ≡ length s.old) }
-    ensures is { OnOk result ((y : ℕ) → y < room s.old → on s.new y ≡ node_left count (λ y. labels_of y m.now) (node (Node.Do o.now)) (on s.old) y) }
-    ensures nodes { IfOk result (λ r. option_map node r ≡ node_swept count (λ y. labels_of y m.now) (node (Node.Do o.now)) (on s.old)) }
+/// Whether an operation is wanted; and then the set becomes what is live before it.
+fn sweep_op(count: u32, o: &Op<u32>, m: &Labels, s: &mut Live) -> bool
+    ensures len { length s.new ≡ length s.old }
+    ensures is { (y : ℕ) → y < room s.old → on s.new y ≡ node_left count (λ y. labels_of y m.now) (node (Node.Do o.now)) (on s.old) y }
+    ensures stays { result ≡ op_wanted count o.now (on s.old) }
 {
     if !is_op_wanted(count, o, &*s) {
-        return Ok(None);
+        return false;
     }
     before_op(o, m, s);
-    Ok(Some(Node::Do(o.copied(alloc)?)))
+    true
 }
 
-/// Makes the set what is live before a node, without what is taken out; the node, where it stays.
+/// What a walk goes by: the temporaries below `count` count, and the heads of loops are told.
+#[derive(Drop)]
+struct By<'a> {
+    alloc: Global,
+    count: u32,
+    heads: &'a [Head],
+}
+
+/// Makes the set what is live before a node, without what is taken out inside of it. False where the node itself is taken out.
 #[cycle(sweep)]
 #[tactic(auto, using(mid_live::proofs::Named::told_inside))]
 fn sweep_node(
-    alloc: Global,
-    count: u32,
-    n: &Node<u32>,
+    by: &By<'_>,
+    n: &mut Node<u32>,
     m: &Labels,
     s: &mut Live,
-    heads: &[Head],
     next: &mut usize,
-) -> Result<Option<Node<u32>>, Memory>
-    requires fits { count ≤ room s.old }
-    requires told { NodeTold (length s.old) heads.now next.old (node n.now) }
-    ensures next { OnOk result (next.new ≡ node_loops (node n.now) + next.old) }
+) -> Result<bool, Memory>
+    requires fits { by.now.count ≤ room s.old }
+    requires told { NodeTold (length s.old) by.now.heads.now next.old (node n.old) }
+    ensures next { OnOk result (next.new ≡ node_loops (node n.old) + next.old) }
     ensures len { OnOk result (length s.new ≡ length s.old) }
-    ensures is { OnOk result ((y : ℕ) → y < count → on s.new y ≡ node_left count (λ y. labels_of y m.now) (node n.now) (on s.old) y) }
-    ensures nodes { IfOk result (λ r. option_map node r ≡ node_swept count (λ y. labels_of y m.now) (node n.now) (on s.old)) }
+    ensures is { OnOk result ((y : ℕ) → y < by.now.count → on s.new y ≡ node_left by.now.count (λ y. labels_of y m.now) (node n.old) (on s.old) y) }
+    ensures nodes { IfOk result (λ b. cond b (Some (node n.new)) None ≡ node_swept by.now.count (λ y. labels_of y m.now) (node n.old) (on s.old)) }
 {
     match n {
-        Node::Do(o) => sweep_op(alloc, count, o, m, s),
+        Node::Do(o) => Ok(sweep_op(by.count, &*o, m, s)),
         Node::Choose(p, a, b) => {
-            let behind = s.kept(alloc)?;
+            let behind = s.kept(by.alloc)?;
             let Some(_) = b.as_slice().split_first() else {
-                let first = sweep_nodes(alloc, count, a.as_slice(), &*m, s, heads, next)?;
+                sweep_inside(by, a, &*m, s, next)?;
                 s.join(&behind);
                 s.put(*p as usize);
-                let second = Seq::from_vec(Vec::new(alloc));
-                return Ok(Some(Node::Choose(*p, Seq::from_vec(first), second)));
+                return Ok(true);
             };
-            let second = sweep_nodes(alloc, count, b.as_slice(), &*m, s, heads, next)?;
-            let other = s.kept(alloc)?;
+            sweep_inside(by, b, &*m, s, next)?;
+            let other = s.kept(by.alloc)?;
             s.restore(&behind);
-            let first = sweep_nodes(alloc, count, a.as_slice(), &*m, s, heads, next)?;
+            sweep_inside(by, a, &*m, s, next)?;
             s.join(&other);
             s.put(*p as usize);
-            Ok(Some(Node::Choose(*p, Seq::from_vec(first), Seq::from_vec(second))))
+            Ok(true)
         }
         Node::Block(b) => {
-            let ends = s.kept(alloc)?;
-            let begins = Kept::none(alloc);
-            let around = nested(&begins, &ends, &*m);
-            let inside = sweep_nodes(alloc, count, b.as_slice(), &around, s, heads, next)?;
-            Ok(Some(Node::Block(Seq::from_vec(inside))))
+            sweep_block(by, b, &*m, s, next)?;
+            Ok(true)
         }
         Node::Loop(b) => {
-            let ends = s.kept(alloc)?;
-            let head = head_of(alloc, b.as_slice(), &*m, s, &ends, heads, next)?;
-            let around = nested(&head, &ends, &*m);
-            let inside = sweep_nodes(alloc, count, b.as_slice(), &around, s, heads, next)?;
-            Ok(Some(Node::Loop(Seq::from_vec(inside))))
+            sweep_loop(by, b, &*m, s, next)?;
+            Ok(true)
         }
         Node::Leave(k) => {
             at_end(m, *k, s);
-            Ok(Some(Node::Leave(*k)))
+            Ok(true)
         }
         Node::Again(k) => {
             at_begin(m, *k, s);
-            Ok(Some(Node::Again(*k)))
+            Ok(true)
         }
         Node::Return(p) => {
             at_return(p, s);
-            Ok(Some(Node::Return(*p)))
+            Ok(true)
         }
     }
 }
 
-fn add(found: &mut Vec<Node<u32>>, kept: Option<Node<u32>>) -> Result<(), Memory>
-    ensures { OnOk result (found.new.items ≡ found.old.items ++ option_to_list kept) }
+/// The same of a block, which stays.
+#[cycle(sweep)]
+fn sweep_block(
+    by: &By<'_>,
+    b: &mut Seq<Node<u32>>,
+    m: &Labels,
+    s: &mut Live,
+    next: &mut usize,
+) -> Result<(), Memory>
+    requires fits { by.now.count ≤ room s.old }
+    requires told { NodeTold (length s.old) by.now.heads.now next.old (BlockN (listed (map node b.old))) }
+    ensures next { OnOk result (next.new ≡ node_loops (BlockN (listed (map node b.old))) + next.old) }
+    ensures len { OnOk result (length s.new ≡ length s.old) }
+    ensures is { OnOk result ((y : ℕ) → y < by.now.count
+        → on s.new y ≡ node_left by.now.count (λ y. labels_of y m.now) (BlockN (listed (map node b.old))) (on s.old) y) }
+    ensures nodes { OnOk result (Some (BlockN (listed (map node b.new)))
+        ≡ node_swept by.now.count (λ y. labels_of y m.now) (BlockN (listed (map node b.old))) (on s.old)) }
 {
-    if let Some(n) = kept {
-        found.push(n)?;
-    }
+    let ends = s.kept(by.alloc)?;
+    let begins = Kept::none(by.alloc);
+    let around = nested(&begins, &ends, &*m);
+    sweep_inside(by, b, &around, s, next)?;
     Ok(())
 }
 
-/// Makes the set what is live before nodes, without what is taken out; the nodes that stay.
+/// The same of a loop, which stays.
 #[cycle(sweep)]
-fn sweep_nodes(
-    alloc: Global,
-    count: u32,
-    ns: &[Node<u32>],
+fn sweep_loop(
+    by: &By<'_>,
+    b: &mut Seq<Node<u32>>,
     m: &Labels,
     s: &mut Live,
-    heads: &[Head],
     next: &mut usize,
-) -> Result<Vec<Node<u32>>, Memory>
-    requires fits { count ≤ room s.old }
-    requires told { ListTold (length s.old) heads.now next.old (listed (map node ns.now)) }
-    ensures next { OnOk result (next.new ≡ list_loops (listed (map node ns.now)) + next.old) }
+) -> Result<(), Memory>
+    requires fits { by.now.count ≤ room s.old }
+    requires told { NodeTold (length s.old) by.now.heads.now next.old (LoopN (listed (map node b.old))) }
+    ensures next { OnOk result (next.new ≡ node_loops (LoopN (listed (map node b.old))) + next.old) }
     ensures len { OnOk result (length s.new ≡ length s.old) }
-    ensures is { OnOk result ((y : ℕ) → y < count → on s.new y ≡ list_left count (λ y. labels_of y m.now) (listed (map node ns.now)) (on s.old) y) }
-    ensures nodes { IfOk result (λ r. map node r.items ≡ list_swept count (λ y. labels_of y m.now) (listed (map node ns.now)) (on s.old)) }
+    ensures is { OnOk result ((y : ℕ) → y < by.now.count
+        → on s.new y ≡ node_left by.now.count (λ y. labels_of y m.now) (LoopN (listed (map node b.old))) (on s.old) y) }
+    ensures nodes { OnOk result (Some (LoopN (listed (map node b.new)))
+        ≡ node_swept by.now.count (λ y. labels_of y m.now) (LoopN (listed (map node b.old))) (on s.old)) }
 {
-    let start = *next;
-    let mut found = Vec::with_capacity(alloc, ns.len())?;
+    let ends = s.kept(by.alloc)?;
+    let head = head_of(by.alloc, b.as_slice(), &*m, s, &ends, by.heads, next)?;
+    let around = nested(&head, &ends, &*m);
+    sweep_inside(by, b, &around, s, next)?;
+    Ok(())
+}
+
+/// Makes the set what is live before nodes, without what is taken out. Those that stay stand, in their order, from the place on that is the answer.
+#[cycle(sweep)]
+fn sweep_nodes(
+    by: &By<'_>,
+    ns: &mut [Node<u32>],
+    m: &Labels,
+    s: &mut Live,
+    next: &mut usize,
+) -> Result<usize, Memory>
+    requires fits { by.now.count ≤ room s.old }
+    requires told { ListTold (length s.old) by.now.heads.now next.old (listed (map node ns.old)) }
+    ensures next { OnOk result (next.new ≡ list_loops (listed (map node ns.old)) + next.old) }
+    ensures len { OnOk result (length s.new ≡ length s.old) }
+    ensures is { OnOk result ((y : ℕ) → y < by.now.count
+        → on s.new y ≡ list_left by.now.count (λ y. labels_of y m.now) (listed (map node ns.old)) (on s.old) y) }
+    ensures within { IfOk result (λ k. k ≤ length ns.new) }
+    ensures nodes { IfOk result (λ k. map node (drop k ns.new) ≡ list_swept by.now.count (λ y. labels_of y m.now) (listed (map node ns.old)) (on s.old)) }
+{
+    let mut from = ns.len();
     let mut i = ns.len();
     while i > 0 {
         i -= 1;
-        told_each(ns, i, s, heads, start, *next);
-        let kept = sweep_node(alloc, count, &ns[i], &*m, s, heads, next)?;
-        add(&mut found, kept)?;
+        if sweep_node(by, &mut ns[i], &*m, s, next)? {
+            from -= 1;
+            ns.swap(i, from);
+        }
     }
-    found.reverse();
-    Ok(found)
+    Ok(from)
+}
+
+/// The same of the nodes inside of a node, or of a function; only those that stay are left.
+#[cycle(sweep)]
+fn sweep_inside(
+    by: &By<'_>,
+    b: &mut Seq<Node<u32>>,
+    m: &Labels,
+    s: &mut Live,
+    next: &mut usize,
+) -> Result<(), Memory>
+    requires fits { by.now.count ≤ room s.old }
+    requires told { ListTold (length s.old) by.now.heads.now next.old (listed (map node b.old)) }
+    ensures next { OnOk result (next.new ≡ list_loops (listed (map node b.old)) + next.old) }
+    ensures len { OnOk result (length s.new ≡ length s.old) }
+    ensures is { OnOk result ((y : ℕ) → y < by.now.count
+        → on s.new y ≡ list_left by.now.count (λ y. labels_of y m.now) (listed (map node b.old)) (on s.old) y) }
+    ensures nodes { OnOk result (map node b.new ≡ list_swept by.now.count (λ y. labels_of y m.now) (listed (map node b.old)) (on s.old)) }
+{
+    let mut ns = mem::replace(b, Seq::from_vec(Vec::new(by.alloc))).into_vec();
+    let from = sweep_nodes(by, &mut ns, &*m, s, next)?;
+    if from > 0 {
+        ns = ns.split_off(from)?;
+    }
+    *b = Seq::from_vec(ns);
+    Ok(())
 }
 
 /// Takes out of the function the operations that only put something where nothing reads it. The error is want of memory.
@@ -160,17 +221,14 @@ fn sweep_function(
     let spare = f.temps as usize;
     make_room(alloc, s, have, spare + 1)?;
     let heads = heads_in(alloc, f.body.as_slice(), s, spare)?;
-    let mut next = 0;
-    let body = sweep_nodes(
+    let by = By {
         alloc,
-        f.temps,
-        f.body.as_slice(),
-        &outside(),
-        s,
-        heads.as_slice(),
-        &mut next,
-    )?;
-    f.body = Seq::from_vec(body);
+        count: f.temps,
+        heads: heads.as_slice(),
+    };
+    let mut next = 0;
+    let around = outside();
+    sweep_inside(&by, &mut f.body, &around, s, &mut next)?;
     Ok(())
 }
 

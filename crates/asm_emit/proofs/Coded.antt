@@ -23,7 +23,7 @@ use Rattle.asm_laws.specs.Pieces.{register, is_in, turned}
 use Rattle.asm_laws.specs.Framing.{frame_made, frame_gone}
 use Rattle.asm_laws.specs.declared.behind.Behind.{Behind}
 use Rattle.asm_laws.specs.declared.behind.Behind.TheVariants.{Other, End, Turn}
-use Rattle.asm_laws.specs.inner.Emitted.{labels, jump, jump_unless, mark, first_part, second_part, choice, alone, left_to, ends, jump_when, is_stop, enclosed, returning, items_past, code_items, call_item, own_items, exit_items, inside, is_end, is_turn, again, rotated, looped, is_tested, part_items, test_items, enclosing}
+use Rattle.asm_laws.specs.inner.Emitted.{labels, jump, jump_unless, mark, first_part, second_part, choice, alone, left_to, ends, jump_when, is_stop, enclosed, leaving, returning, items_past, code_items, call_item, own_items, exit_items, inside, is_end, is_turn, again, rotated, looped, is_tested, part_items, test_items, enclosing}
 use Rattle.asm_emit.specs.EmittedFrom.{IsCode}
 use Rattle.asm_laws.specs.declared.copying.Copying.{Copying}
 use Rattle.asm_laws.specs.Copies.{copy_at, copy_or, items_from}
@@ -105,6 +105,13 @@ moved_code F ((t, s) ∷ ms) = (fetch_code F s (register t), moved_code F ms)
 
 args_code : (F G : Frame) (ps args : List Where) → AreCode (args_items F G ps args)
 args_code F G ps args = joined (slot_args F G ps args) (moved_items F (in_order ps args)) (slots_code F G ps args) (moved_code F (in_order ps args))
+
+gone_code : (size : ℕ) → AreCode (frame_gone size)
+gone_code size = either (size == 0) (item.Op (instr.Plain RET) ∷ []) (item.Op (instr.Two IADD 15 (src.Imm (Left size))) ∷ item.Op (instr.Plain RET) ∷ []) (tt, tt) (tt, (tt, tt))
+
+leaving_code : (F : Frame) (out : Option ℕ) → AreCode (leaving F out)
+leaving_code F None = gone_code F.size
+leaving_code F (Some n) = (tt, tt)
 
 module _ (W : Whole) (F : Frame) where
   op_code : (o : OpT Where) → AreCode (op_items W F o)
@@ -196,7 +203,7 @@ module _ (W : Whole) (F : Frame) where
   rotated_code : (n : ℕ) (part test : List AsmItem) → AreCode part → AreCode test → AreCode (rotated n part test)
   rotated_code n part test hp ht = (tt, (tt, joined part (mark n ∷ (test ++ mark (n + 1) ∷ [])) hp (tt, joined test (mark (n + 1) ∷ []) ht (tt, tt))))
 
-  module _ (out : ℕ) where
+  module _ (out : Option ℕ) where
     test_code : (to : ℕ) (c : NodesT Where) (done : ℕ) → AreCode (test_items W F out to c done)
     test_code to Stop done = tt
     test_code to (Do o c) zero =
@@ -245,7 +252,7 @@ module _ (W : Whole) (F : Frame) where
           joined (again ls k (ends last c)) (items_past W F out last ls n c 0) (either ((k == 0) && is_turn (ends last c)) [] (jump (enclosing ls k) ∷ []) tt (tt, tt)) (past_code c 0 last ls n)
       past_code (Return p c) done last ls n =
           joined (returning F p out (is_end (ends last c))) (items_past W F out last ls n c 0)
-          (joined (giving F p) (cond (is_end (ends last c)) [] (jump out ∷ [])) (giving_code p) (either (is_end (ends last c)) [] (jump out ∷ []) tt (tt, tt)))
+          (joined (giving F p) (cond (is_end (ends last c)) [] (leaving F out)) (giving_code p) (either (is_end (ends last c)) [] (leaving F out) tt (leaving_code F out)))
           (past_code c 0 last ls n)
 
       part_code : (c : NodesT Where) (ls : List ℕ) (n : ℕ) → AreCode (part_items W F out ls n c)
@@ -264,11 +271,8 @@ module _ (W : Whole) (F : Frame) where
 made_code : (size : ℕ) → AreCode (frame_made size)
 made_code size = either (size == 0) [] (item.Op (instr.Two ISUB 15 (src.Imm (Left size))) ∷ []) tt (tt, tt)
 
-gone_code : (size : ℕ) → AreCode (frame_gone size)
-gone_code size = either (size == 0) (item.Op (instr.Plain RET) ∷ []) (item.Op (instr.Two IADD 15 (src.Imm (Left size))) ∷ item.Op (instr.Plain RET) ∷ []) (tt, tt) (tt, (tt, tt))
-
 pub own_code : (W : Whole) (f n : ℕ) (body : NodesT Where) → AreCode (own_items W f n body)
 own_code W f n body =
     let F = W.frames f in
-    let items = code_items W F n [] (n + 1) body in
-    joined (frame_made F.size) (items ++ exit_items n F) (made_code F.size) (joined items (exit_items n F) (past_code W F n body 0 End [] (n + 1)) (tt, gone_code F.size))
+    let items = code_items W F None [] (n + 1) body in
+    joined (frame_made F.size) (items ++ exit_items n F) (made_code F.size) (joined items (exit_items n F) (past_code W F None body 0 End [] (n + 1)) (tt, gone_code F.size))

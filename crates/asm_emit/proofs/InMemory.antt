@@ -190,7 +190,7 @@ mutual
 not_zero : (k : ℕ) → (suc k == 0) ≡ false
 not_zero k = grind (arith, nat_tests)
 
-module _ (W : Whole) (F : Frame) (out : ℕ) where
+module _ (W : Whole) (F : Frame) (out : Option ℕ) where
   abbrev items : (last : Behind) → List ℕ → ℕ → NodesT Where → (done : ℕ) → List AsmItem
   items = items_past W F out
 

@@ -29,7 +29,7 @@ use Rattle.asm_laws.specs.Pieces.{register, is_in, turned}
 use Rattle.asm_laws.specs.Framing.{frame_made, frame_gone}
 use Rattle.asm_laws.specs.declared.behind.Behind.{Behind}
 use Rattle.asm_laws.specs.declared.behind.Behind.TheVariants.{Other, End, Turn}
-use Rattle.asm_laws.specs.inner.Emitted.{labels, enclosing, jump, jump_unless, mark, first_part, second_part, choice, alone, left_to, ends, jump_when, is_stop, enclosed, returning, items_past, code_items, exit_items, function_items, functions_items, closing_items, start_items, program_items, inside, is_end, is_turn, again, rotated, looped, is_tested, part_items, test_items}
+use Rattle.asm_laws.specs.inner.Emitted.{labels, enclosing, jump, jump_unless, mark, first_part, second_part, choice, alone, left_to, ends, jump_when, is_stop, enclosed, leaving, returning, items_past, code_items, exit_items, function_items, functions_items, closing_items, start_items, program_items, inside, is_end, is_turn, again, rotated, looped, is_tested, part_items, test_items}
 use Rattle.asm_laws.specs.declared.copying.Copying.{Copying}
 use Rattle.asm_laws.specs.Copies.{copy_at, copy_or, items_from}
 use Rattle.asm_laws.proofs.InOne.{TakesWord, one_or_more_is, group_is}
@@ -280,7 +280,7 @@ module _ (x : CodeT Where) (W : Whole) (words : list_all is_word W.names ≡ tru
     rotated_fine : (n : ℕ) (part test : List AsmItem) → AllFine part → AllFine test → AllFine (rotated n part test)
     rotated_fine n part test hp ht = ((jump_named n, tt), (jump_named (n + 2), join part (mark n ∷ (test ++ mark (n + 1) ∷ [])) hp (jump_named n, join test (mark (n + 1) ∷ []) ht (jump_named (n + 1), tt))))
 
-    module _ (out : ℕ) where
+    module _ (out : Option ℕ) (leaves : AllFine (leaving F out)) where
       test_fine : (to : ℕ) (c : NodesT Where) (done : ℕ) (bs : List Bool) → AreNodes x m bs c → AllFine (test_items W F out to c done)
       test_fine to Stop done bs ok = tt
       test_fine to (Do o c) zero bs ok = join (group_items W F o c) _ (group_fine o c bs ok) (test_fine to c (group_more W F o c) bs ok.1)
@@ -313,7 +313,7 @@ module _ (x : CodeT Where) (W : Whole) (words : list_all is_word W.names ≡ tru
             (past_fine c 0 last bs ls (n + (2 + labels b)) ok.1)
         past_fine (Leave k c) done last bs ls n ok = ((jump_named (add (enclosing ls k) 1), tt), past_fine c 0 last bs ls n ok.1)
         past_fine (Again k c) done last bs ls n ok = join (again ls k (ends last c)) _ (either ((k == 0) && is_turn (ends last c)) [] (jump (enclosing ls k) ∷ []) tt ((jump_named (enclosing ls k), tt), tt)) (past_fine c 0 last bs ls n ok.1)
-        past_fine (Return p c) done last bs ls n ok = join (returning F p out (is_end (ends last c))) _ (join (giving F p) (cond (is_end (ends last c)) [] (jump out ∷ [])) (giving_fine F p) (either (is_end (ends last c)) [] (jump out ∷ []) tt ((jump_named out, tt), tt))) (past_fine c 0 last bs ls n ok)
+        past_fine (Return p c) done last bs ls n ok = join (returning F p out (is_end (ends last c))) _ (join (giving F p) (cond (is_end (ends last c)) [] (leaving F out)) (giving_fine F p) (either (is_end (ends last c)) [] (leaving F out) tt leaves)) (past_fine c 0 last bs ls n ok)
 
         part_fine : (c : NodesT Where) (bs : List Bool) (ls : List ℕ) (n : ℕ) → AreNodes x m bs c → AllFine (part_items W F out ls n c)
         part_fine Stop bs ls n ok = tt
@@ -332,9 +332,9 @@ module _ (x : CodeT Where) (W : Whole) (words : list_all is_word W.names ≡ tru
   function_fine : (f n : ℕ) (g : FunctionT Where) → (W.frames f).size < 2 ^ 32 → AreNodes x (length g.locals) [] g.body → AllFine (function_items W f n g.body)
   function_fine f n g small ok =
       let F = W.frames f in
-      let items = code_items W F n [] (n + 1) g.body in (
+      let items = code_items W F None [] (n + 1) g.body in (
         function_named W.names f words,
-        join (frame_made F.size) (items ++ exit_items n F) (made_fine F.size small) (join items (exit_items n F) (code_fine (length g.locals) F n g.body [] [] (n + 1) ok) (jump_named n, gone_fine F.size small)),
+        join (frame_made F.size) (items ++ exit_items n F) (made_fine F.size small) (join items (exit_items n F) (code_fine (length g.locals) F None (gone_fine F.size small) g.body [] [] (n + 1) ok) (jump_named n, gone_fine F.size small)),
       )
 
   functions_fine : (f n : ℕ) (gs : List (FunctionT Where)) → ((k : ℕ) → (W.frames k).size < 2 ^ 32) → AllOf (λ g. AreNodes x (length g.locals) [] g.body) gs → AllFine (functions_items W f n gs)
@@ -352,8 +352,8 @@ module _ (x : CodeT Where) (W : Whole) (words : list_all is_word W.names ≡ tru
   -- all items of a program
   pub program_readable : ((k : ℕ) → (W.frames k).size < 2 ^ 32) → AreNodes x (length x.start.locals) [] x.start.body → AllOf (λ g. AreNodes x (length g.locals) [] g.body) x.functions → TextsAreWords x.literals → AreReadable (program_items W x)
   program_readable small start each texts =
-      let body = code_items W start_frame 0 [] 1 x.start.body in
+      let body = code_items W start_frame (Some 0) [] 1 x.start.body in
       all_read (program_items W x)
       (join (start_items W x.main x.start.body) _
-      (join body (closing_items W x.main) (code_fine (length x.start.locals) start_frame 0 x.start.body [] [] 1 start) (jump_named 0, ((function_named W.names x.main words, tt), (tt, tt))))
+      (join body (closing_items W x.main) (code_fine (length x.start.locals) start_frame (Some 0) ((jump_named 0, tt), tt) x.start.body [] [] 1 start) (jump_named 0, ((function_named W.names x.main words, tt), (tt, tt))))
       (join (functions_items W 0 (1 + labels x.start.body) x.functions) (literals_items 0 x.literals) (functions_fine 0 (1 + labels x.start.body) x.functions small each) (literals_fine 0 x.literals texts)))

@@ -8,6 +8,7 @@
 mod ahead;
 mod calls;
 mod copies;
+mod framing;
 mod hands;
 mod moving;
 mod names;

@@ -1,5 +1,5 @@
 -- The words of a program do what its placed code means.
-use Rattle.std.proofs.Common.{◌≡◌, ◌≢◌, ℕ, zero, suc, ◌+◌, ◌-◌, ◌*◌, ◌<◌, ◌≤◌, true, false, List, [], ◌∷◌, ◌++◌, length, Option, Some, None, refl, sym, ap, ◌∙◌, subst, arith, append-nil}
+use Rattle.std.proofs.Common.{◌≡◌, ◌≢◌, ℕ, zero, suc, ◌+◌, ◌-◌, ◌*◌, ◌<◌, ◌≤◌, inl, inr, true, false, List, [], ◌∷◌, ◌++◌, length, Option, Some, None, refl, sym, ap, ◌∙◌, subst, arith, append-nil}
 use Rattle.std.specs.Prelude.{get_or, slice_get, slice_index, nat_lt}
 use Rattle.std.proofs.lemmas.Option.{slice_get_within, get_or_from_slice_get}
 use Rattle.std.proofs.lemmas.Bool.Decides.{nat_tests}
@@ -32,7 +32,7 @@ use Rattle.asm_laws.proofs.Control.{still, entered_sim}
 use Rattle.asm_laws.specs.Addresses.{having, Held}
 use Rattle.asm_laws.proofs.Stepping.{line_effect, readable_word}
 use Rattle.asm_laws.specs.Holds.{Setting, Fits, Ctx, Lives, Stands}
-use Rattle.asm_laws.specs.Calling.{Mach, Given, EndedIn, lang, holder, shapes}
+use Rattle.asm_laws.specs.Calling.{Mach, Given, ExitAt, EndedIn, lang, holder, shapes}
 use Rattle.asm_laws.specs.Linked.{Linked, first_context, first_words}
 use Rattle.asm_laws.proofs.First.{cell_wide}
 use Rattle.asm_laws.proofs.Words.{readable_in}
@@ -216,6 +216,11 @@ module _ (S : Setting) (card : Option (List ℕ)) (boot rest : ℕ) (l : Linked 
   left_given : (t : State Where) (m : machine.State) → Given S κ0 t m → Mach S κ1 t m
   left_given t m g = left t m (record { place = g.place; words = g.words; at = g.at; registers = g.registers; like = g.like; held = g.held })
 
+  -- the start ends where its body does
+  start_ends : (q : ℕ) → ExitAt S boot q → q ≡ S.leaves boot
+  start_ends q (inl e) = e
+  start_ends q (inr r) = let e : None ≡ Some boot = sym l.boot_as ∙ r.0 in absurd cc
+
   module _ (m0 : machine.State) (answers : List ℕ) (n : ℕ) where
     abbrev Here : Final → Type 0
     Here e = Shown S l.fits m0 answers n e
@@ -257,7 +262,7 @@ module _ (S : Setting) (card : Option (List ℕ)) (boot rest : ℕ) (l : Linked 
     start_row n b m1 (Next t) p a = main_row n t a.to (further S l.fits m0 answers n b m1 t (S.leaves boot) 0 (Mach S κ0 t) p a) a.at (left t a.to a.held)
     start_row n b m1 (Leaves k t) p a = strays S l.fits m0 answers n b m1 t _ 0 (Mach S κ0 t) p a
     start_row n b m1 (Repeats k t) p a = strays S l.fits m0 answers n b m1 t _ 1 (Mach S κ0 t) p a
-    start_row n b m1 (Returns t) p a = main_row n t a.to (further S l.fits m0 answers n b m1 t (S.leaves boot) 0 (Given S κ0 t) p a) a.at (left_given t a.to a.held)
+    start_row n b m1 (Returns t) p (q, x, a) = main_row n t a.to (further S l.fits m0 answers n b m1 t q 0 (Given S κ0 t) p a) (a.at ∙ start_ends q x) (left_given t a.to a.held)
     start_row n b m1 (Over f t) p a = shown_final S l.fits m0 answers n b m1 f t p a
 
   -- ---- the opening

@@ -15,12 +15,13 @@ use Rattle.asm_laws.specs.Names.{jump_label}
 use Rattle.asm_laws.specs.Operations.{Frame, hand, brings, giving, call_items, group_items, group_more}
 use Rattle.asm_laws.specs.declared.behind.Behind.{Behind}
 use Rattle.asm_laws.specs.declared.behind.Behind.TheVariants.{Other, End, Turn}
-use Rattle.asm_laws.specs.inner.Emitted.{labels, enclosing, jump, jump_unless, mark, jump_when, choice, first_part, second_part, left_to, alone, ends, is_stop, enclosed, returning, items_past, code_items, inside, is_end, is_turn, again, looped, is_tested, is_round, part_items, test_items}
+use Rattle.asm_laws.specs.inner.Emitted.{labels, enclosing, jump, jump_unless, mark, jump_when, choice, first_part, second_part, left_to, alone, ends, is_stop, enclosed, leaving, returning, items_past, code_items, inside, is_end, is_turn, again, looped, is_tested, is_round, part_items, test_items}
 use Rattle.asm_laws.specs.Placing.{Line, Bounds, end_of, begin_of, owed, paid, Jumps, Passes, Begins, Past, At}
 use Rattle.asm_laws.specs.Standing.{Stand}
 use Rattle.asm_laws.specs.declared.copying.Copying.{Copying}
 use Rattle.asm_laws.specs.Copies.{copy_at, copy_or}
 use Rattle.asm_laws.specs.Holds.{Setting}
+use Rattle.asm_laws.specs.Calling.{ExitAt}
 use Rattle.asm_laws.specs.Program.{items_at}
 use Rattle.asm_laws.proofs.Split.{split}
 use Rattle.asm_laws.proofs.Control.{end_paid, begin_paid}
@@ -45,7 +46,17 @@ stops (Return p c) e = absurd cc
 not_zero : (k : ℕ) → (suc k == 0) ≡ false
 not_zero k = grind (arith, nat_tests)
 
-module _ (S : Setting) (f out : ℕ) (leave : S.address (jump_label out) ≡ S.leaves f) where
+-- what leaves a function stands where it ends, and what leaves the start goes there
+abbrev pub Leaves : Setting → ℕ → Option ℕ → Type 0
+Leaves S f out = (p q : ℕ) → Stand S.console.words S.address p (leaving (S.whole.frames f) out) q → (z : ℕ) × Passes S.console.words p z × ExitAt S f z
+
+pub function_leaves : (S : Setting) (f : ℕ) → S.called_as f ≡ Some f → Leaves S f None
+function_leaves S f called p q h = (p, inr refl, inr (called, q, h))
+
+pub start_leaves : (S : Setting) (f n : ℕ) → S.address (jump_label n) ≡ S.leaves f → Leaves S f (Some n)
+start_leaves S f n at p q h = (S.leaves f, inl (h.0, subst (λ z. Line S.console.words p (instr.Go JMP (src.Imm z)) h.0) at h.1), inl refl)
+
+module _ (S : Setting) (f : ℕ) (out : Option ℕ) (leave : Leaves S f out) where
   abbrev label : ℕ → ℕ
   label n = S.address (jump_label n)
 
@@ -218,10 +229,10 @@ module _ (S : Setting) (f out : ℕ) (leave : S.address (jump_label out) ≡ S.l
   deeper ls n bs b same = let h = length-append ls (n ∷ []) in omega (arith, h, same)
 
   module _ (x : CodeT Where) (m : ℕ) where
-    given : (es : List Bounds) (last : Behind) (p q : ℕ) → Over es last q → Here p (cond (is_end last) [] (jump out ∷ [])) q → Passes S.console.words p (S.leaves f)
-    given es End p q over h = inr (h ∙ over)
-    given es Other p q over h = inl (jumps_to p h.0 (label out) (S.leaves f) h.1 leave)
-    given es Turn p q over h = inl (jumps_to p h.0 (label out) (S.leaves f) h.1 leave)
+    given : (es : List Bounds) (last : Behind) (p q : ℕ) → Over es last q → Here p (cond (is_end last) [] (leaving F out)) q → (z : ℕ) × Passes S.console.words p z × ExitAt S f z
+    given es End p q over h = (S.leaves f, inr (h ∙ over), inl refl)
+    given es Other p q over h = leave p q h
+    given es Turn p q over h = leave p q h
 
     -- the next turn begins
     begun : (ls : List ℕ) (es : List Bounds) (k : ℕ) (last : Behind) (p q : ℕ) → Enclose ls es → k < length ls → Over es last q → Here p (again ls k last) q → Begins S.console.words (owed es k) p (begin_of es k)
@@ -361,8 +372,9 @@ module _ (S : Setting) (f out : ℕ) (leave : S.address (jump_label out) ≡ S.l
           (begun ls es k (ends last c) pc s.0 en (omega (arith, l, same)) (shut es c last ls n s.0 e over s.2) s.1, (s.0, code_at c zero last bs ls es n s.0 e ok.1 same few en over s.2))
       code_at (Return w c) done last bs ls es n pc e ok same few en over h =
           let s = parts (returning F w out (is_end (ends last c))) (past last ls n c zero) pc e h in
-          let t = parts (giving F w) (cond (is_end (ends last c)) [] (jump out ∷ [])) pc s.0 s.1 in
-          ((t.0, t.1, given es (ends last c) t.0 s.0 (shut es c last ls n s.0 e over s.2) t.2), (s.0, code_at c zero last bs ls es n s.0 e ok same few en over s.2))
+          let t = parts (giving F w) (cond (is_end (ends last c)) [] (leaving F out)) pc s.0 s.1 in
+          let g = given es (ends last c) t.0 s.0 (shut es c last ls n s.0 e over s.2) t.2 in
+          ((t.0, t.1, g.0, g.1, g.2), (s.0, code_at c zero last bs ls es n s.0 e ok same few en over s.2))
 
       -- The operations and the test of a loop that is only that, where what is done in a turn stands from the test's label to the loop's beginning.
       test_at : (c : NodesT Where) (done : ℕ) (ls : List ℕ) (es : List Bounds) (bs : List Bool) (n pc e : ℕ) → is_tested c ≡ true → AreNodes x m bs c → length ls ≡ length bs → Few (n + labels c) → Enclose ls es →

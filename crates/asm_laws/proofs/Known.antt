@@ -37,7 +37,7 @@ use Rattle.asm_laws.specs.Framing.{frame_made, frame_gone}
 use Rattle.asm_laws.proofs.Leaving.{left_is}
 use Rattle.asm_laws.specs.declared.behind.Behind.{Behind}
 use Rattle.asm_laws.specs.declared.behind.Behind.TheVariants.{Other, End, Turn}
-use Rattle.asm_laws.specs.inner.Emitted.{labels, functions_labels, enclosing, jump, jump_unless, mark, first_part, second_part, choice, one_way, alone, left_to, ends, jump_when, is_stop, enclosed, returning, items_past, code_items, entry_items, exit_items, function_items, functions_items, closing_items, start_items, program_items, inside, is_end, is_turn, again, rotated, looped, is_tested, part_items, test_items}
+use Rattle.asm_laws.specs.inner.Emitted.{labels, functions_labels, enclosing, jump, jump_unless, mark, first_part, second_part, choice, one_way, alone, left_to, ends, jump_when, is_stop, enclosed, leaving, returning, items_past, code_items, entry_items, exit_items, function_items, functions_items, closing_items, start_items, program_items, inside, is_end, is_turn, again, rotated, looped, is_tested, part_items, test_items}
 use Rattle.asm_laws.proofs.Programs.{mapped_from}
 use Rattle.asm_laws.proofs.Walked.{total_more}
 use Rattle.asm_laws.specs.declared.copying.Copying.{Copying}
@@ -269,7 +269,7 @@ module _ (x : CodeT Where) (W : Whole) (Q : List ℕ → Type 0) (of_function : 
   abbrev Knows : List AsmItem → Type 0
   Knows xs = (m : List ℕ) → HasLabel xs m → Q m
 
-  module _ (F : Frame) (out : ℕ) (at_end : Q (jump_label out)) where
+  module _ (F : Frame) (out : Option ℕ) (at_end : Uses Q (leaving F out)) where
     choice_uses : (p : Where) (n m : ℕ) (a b : List AsmItem) → Knows (choice F p n m a b) → (Knows a → Uses Q a) → (Knows b → Uses Q b) → Uses Q (choice F p n m a b)
     choice_uses p n m a b k ua ub =
         let inner = a ++ jump m ∷ mark n ∷ [] in
@@ -391,7 +391,7 @@ module _ (x : CodeT Where) (W : Whole) (Q : List ℕ → Type 0) (of_function : 
       past_uses m (Return p c) done last bs ls n same ok few j k =
           let a = returning F p out (is_end (ends last c)) in
           let b = items_past W F out last ls n c 0 in
-          uses_append Q a b (uses_append Q (giving F p) (cond (is_end (ends last c)) [] (jump out ∷ [])) (giving_uses F p) (one_of_both (is_end (ends last c)) [] (jump out ∷ []) tt (at_end, tt))) (past_uses m c 0 last bs ls n same ok few j (λ w h. k w (marked_right a b w h)))
+          uses_append Q a b (uses_append Q (giving F p) (cond (is_end (ends last c)) [] (leaving F out)) (giving_uses F p) (one_of_both (is_end (ends last c)) [] (leaving F out) tt at_end)) (past_uses m c 0 last bs ls n same ok few j (λ w h. k w (marked_right a b w h)))
 
       part_uses : (m : ℕ) (c : NodesT Where) (bs : List Bool) (ls : List ℕ) (n : ℕ) → length ls ≡ length bs → AreNodes x m bs c → n + labels c < 2 ^ 32 - 1 → Jumpable ls → Knows (part_items W F out ls n c) → Uses Q (part_items W F out ls n c)
       part_uses m (Do o c) bs ls n same ok few j k = part_uses m c bs ls n same ok.1 few j k
@@ -424,10 +424,9 @@ module _ (x : CodeT Where) (W : Whole) (Q : List ℕ → Type 0) (of_function : 
   function_uses : (f n : ℕ) (g : FunctionT Where) → Fine g → n + 1 + labels g.body < 2 ^ 32 - 1 → Knows (function_items W f n g.body) → Uses Q (function_items W f n g.body)
   function_uses f n g ok few k =
       let F = W.frames f in
-      let b = code_items W F n [] (n + 1) g.body in
+      let b = code_items W F None [] (n + 1) g.body in
       let more : Knows (b ++ exit_items n F) = λ m h. k m (marked_right (entry_items W f F) (b ++ exit_items n F) m h) in
-      let end : Q (jump_label n) = more (jump_label n) (marked_right b (exit_items n F) (jump_label n) (inl refl)) in
-      uses_append Q (entry_items W f F) (b ++ exit_items n F) (tt, made_uses F.size) (uses_append Q b (exit_items n F) (code_uses F n end (length g.locals) g.body [] [] (n + 1) refl ok few outermost (λ m h. more m (marked_left b (exit_items n F) m h))) (tt, gone_uses F.size))
+      uses_append Q (entry_items W f F) (b ++ exit_items n F) (tt, made_uses F.size) (uses_append Q b (exit_items n F) (code_uses F None (gone_uses F.size) (length g.locals) g.body [] [] (n + 1) refl ok few outermost (λ m h. more m (marked_left b (exit_items n F) m h))) (tt, gone_uses F.size))
 
   functions_uses : (f n : ℕ) (gs : List (FunctionT Where)) → AllOf Fine gs → n + functions_labels gs < 2 ^ 32 - 1 → Knows (functions_items W f n gs) → Uses Q (functions_items W f n gs)
   functions_uses f n [] ok few k = tt
@@ -439,10 +438,10 @@ module _ (x : CodeT Where) (W : Whole) (Q : List ℕ → Type 0) (of_function : 
   start_uses : (main : ℕ) → main < length x.functions → Fine x.start → 1 + labels x.start.body < 2 ^ 32 - 1 → Knows (start_items W main x.start.body) → Uses Q (start_items W main x.start.body)
   start_uses main lt ok few k =
       let F = start_frame in
-      let b = code_items W F 0 [] 1 x.start.body in
+      let b = code_items W F (Some 0) [] 1 x.start.body in
       let more : Knows (b ++ closing_items W main) = k in
       let end : Q (jump_label 0) = more (jump_label 0) (marked_right b (closing_items W main) (jump_label 0) (inl refl)) in
-      uses_append Q b (closing_items W main) (code_uses F 0 end (length x.start.locals) x.start.body [] [] 1 refl ok few outermost (λ m h. more m (marked_left b (closing_items W main) m h))) (tt, (of_function main lt, (tt, tt)))
+      uses_append Q b (closing_items W main) (code_uses F (Some 0) (end, tt) (length x.start.locals) x.start.body [] [] 1 refl ok few outermost (λ m h. more m (marked_left b (closing_items W main) m h))) (tt, (of_function main lt, (tt, tt)))
 
   integers_uses : (bytes : List ℕ) → Uses Q (map item.Integer bytes)
   integers_uses [] = tt

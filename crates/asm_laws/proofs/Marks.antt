@@ -20,7 +20,7 @@ use Rattle.asm_laws.specs.Pieces.{register, is_in, turned}
 use Rattle.asm_laws.specs.Framing.{frame_made, frame_gone}
 use Rattle.asm_laws.specs.declared.behind.Behind.{Behind}
 use Rattle.asm_laws.specs.declared.behind.Behind.TheVariants.{Other, End, Turn}
-use Rattle.asm_laws.specs.inner.Emitted.{labels, functions_labels, enclosing, jump, jump_unless, mark, choice, one_way, alone, left_to, ends, jump_when, is_stop, enclosed, returning, items_past, code_items, entry_items, exit_items, function_items, functions_items, closing_items, start_items, program_items, labels_of, inside, is_end, is_turn, again, rotated, looped, is_tested, part_items, test_items}
+use Rattle.asm_laws.specs.inner.Emitted.{labels, functions_labels, enclosing, jump, jump_unless, mark, choice, one_way, alone, left_to, ends, jump_when, is_stop, enclosed, leaving, returning, items_past, code_items, entry_items, exit_items, function_items, functions_items, closing_items, start_items, program_items, labels_of, inside, is_end, is_turn, again, rotated, looped, is_tested, part_items, test_items}
 use Rattle.asm_laws.specs.declared.copying.Copying.{Copying}
 use Rattle.asm_laws.specs.Copies.{copy_at, copy_or, items_from}
 use Rattle.asm_laws.proofs.InOne.{one_or_more_is, group_is}
@@ -282,7 +282,14 @@ module _ (W : Whole) (differ : Differ W.names) where
   again_bare : (ls : List ℕ) (k : ℕ) (last : Behind) → Bare (again ls k last)
   again_bare ls k last = one_of_both ((k == 0) && is_turn last) [] (jump (enclosing ls k) ∷ []) tt tt
 
-  module _ (F : Frame) (out : ℕ) where
+  gone_bare : (size : ℕ) → Bare (frame_gone size)
+  gone_bare size = one_of_both (size == 0) (item.Op (instr.Plain RET) ∷ []) (item.Op (instr.Two IADD 15 (src.Imm (Left size))) ∷ item.Op (instr.Plain RET) ∷ []) tt tt
+
+  leaving_bare : (F : Frame) (out : Option ℕ) → Bare (leaving F out)
+  leaving_bare F None = gone_bare F.size
+  leaving_bare F (Some n) = tt
+
+  module _ (F : Frame) (out : Option ℕ) where
     test_bare : (to : ℕ) (c : NodesT Where) (done : ℕ) → Bare (test_items W F out to c done)
     test_bare to (Do o c) zero = let more = group_more W F o c in names_append (λ m. ⊥) (group_items W F o c) (test_items W F out to c more) (group_bare F o c) (test_bare to c more)
     test_bare to (Do o c) (suc done) = test_bare to c done
@@ -338,7 +345,7 @@ module _ (W : Whole) (differ : Differ W.names) where
           (past_marks c 0 last ls k e (omega (arith, is)) few)
       past_marks (Leave k c) done last ls n e is few = bare_then (jumps n e) (jump _ ∷ []) (items_past W F out last ls n c 0) tt (past_marks c 0 last ls n e is few)
       past_marks (Again k c) done last ls n e is few = bare_then (jumps n e) (again ls k (ends last c)) (items_past W F out last ls n c 0) (again_bare ls k (ends last c)) (past_marks c 0 last ls n e is few)
-      past_marks (Return p c) done last ls n e is few = bare_then (jumps n e) (returning F p out (is_end (ends last c))) (items_past W F out last ls n c 0) (names_append (λ m. ⊥) (giving F p) (cond (is_end (ends last c)) [] (jump out ∷ [])) (giving_bare F p) (one_of_both (is_end (ends last c)) [] (jump out ∷ []) tt tt)) (past_marks c 0 last ls n e is few)
+      past_marks (Return p c) done last ls n e is few = bare_then (jumps n e) (returning F p out (is_end (ends last c))) (items_past W F out last ls n c 0) (names_append (λ m. ⊥) (giving F p) (cond (is_end (ends last c)) [] (leaving F out)) (giving_bare F p) (one_of_both (is_end (ends last c)) [] (leaving F out) tt (leaving_bare F out))) (past_marks c 0 last ls n e is few)
 
       part_marks : (c : NodesT Where) (ls : List ℕ) (n e : ℕ) → n + labels c ≡ e → e ≤ 2 ^ 32 → Marks (jumps (n + 1) e) (part_items W F out ls n c)
       part_marks (Do o c) ls n e is few = part_marks c ls n e is few
@@ -366,7 +373,7 @@ module _ (W : Whole) (differ : Differ W.names) where
 
   start_marks : (main : ℕ) (body : NodesT Where) (e : ℕ) → 1 + labels body ≡ e → e ≤ 2 ^ 32 → Marks (jumps 0 e) (start_items W main body)
   start_marks main body e is few =
-      falling 0 1 e (code_items W start_frame 0 [] 1 body) (closing_items W main) (omega arith) (omega (arith, is)) (code_marks start_frame 0 body [] 1 e is few) (closing_marks main)
+      falling 0 1 e (code_items W start_frame (Some 0) [] 1 body) (closing_items W main) (omega arith) (omega (arith, is)) (code_marks start_frame (Some 0) body [] 1 e is few) (closing_marks main)
 
   entry_marks : (f : ℕ) → f < length W.names → Marks (span 0 0 f (f + 1) 0 0) (entry_items W f (W.frames f))
   entry_marks f lt =
@@ -376,13 +383,12 @@ module _ (W : Whole) (differ : Differ W.names) where
 
   exit_marks : (n : ℕ) (F : Frame) → n < 2 ^ 32 → Marks (jumps n (n + 1)) (exit_items n F)
   exit_marks n F lt =
-      then_bare (jumps n (n + 1)) (mark n ∷ []) (frame_gone F.size) (mark_one n lt)
-      (one_of_both (F.size == 0) (item.Op (instr.Plain RET) ∷ []) (item.Op (instr.Two IADD 15 (src.Imm (Left F.size))) ∷ item.Op (instr.Plain RET) ∷ []) tt tt)
+      then_bare (jumps n (n + 1)) (mark n ∷ []) (frame_gone F.size) (mark_one n lt) (gone_bare F.size)
 
   function_marks : (f n e : ℕ) (body : NodesT Where) → f < length W.names → n + 1 + labels body ≡ e → e ≤ 2 ^ 32 → Marks (span n e f (f + 1) 0 0) (function_items W f n body)
   function_marks f n e body lt is few =
-      marks_both (span 0 0 f (f + 1) 0 0) (jumps n e) (span n e f (f + 1) 0 0) (entry_items W f (W.frames f)) (code_items W (W.frames f) n [] (n + 1) body ++ exit_items n (W.frames f)) left right apart (entry_marks f lt)
-      (falling n (n + 1) e (code_items W (W.frames f) n [] (n + 1) body) (exit_items n (W.frames f)) (omega arith) (omega (arith, is)) (code_marks (W.frames f) n body [] (n + 1) e is few) (exit_marks n (W.frames f) (omega (arith, is, few))))
+      marks_both (span 0 0 f (f + 1) 0 0) (jumps n e) (span n e f (f + 1) 0 0) (entry_items W f (W.frames f)) (code_items W (W.frames f) None [] (n + 1) body ++ exit_items n (W.frames f)) left right apart (entry_marks f lt)
+      (falling n (n + 1) e (code_items W (W.frames f) None [] (n + 1) body) (exit_items n (W.frames f)) (omega arith) (omega (arith, is)) (code_marks (W.frames f) None body [] (n + 1) e is few) (exit_marks n (W.frames f) (omega (arith, is, few))))
     where
       left : Within (span 0 0 f (f + 1) 0 0) (span n e f (f + 1) 0 0)
       left (Jump k) h = (omega (arith, h), omega (arith, h))

@@ -115,7 +115,7 @@ module _ (S : Setting) (boot rest : ℕ) (card : Option (List ℕ)) (ok : IsCard
   at_of f so cs ls bs (Again k c) done pc e n m sp at = (at.0, (at.1.0, at_of f so cs ls bs c zero at.1.0 e n.1 m sp at.1.1))
   at_of f so cs ls bs (Return w c) done pc e n m sp at =
       let d = halves (Number f) (are_others (maybe w)) (spares c zero) sp in
-      (record { named = m.0.0; stays = all_stay S f (Number f) (maybe w) d.0 m.0.0; then = at.0.0; stands = at.0.1; passes = at.0.2 }, (at.1.0, at_of f so cs ls bs c zero at.1.0 e n m.1 d.1 at.1.1))
+      (record { named = m.0.0; stays = all_stay S f (Number f) (maybe w) d.0 m.0.0; then = at.0.0; stands = at.0.1; out = at.0.2; passes = at.0.3; exit = at.0.4 }, (at.1.0, at_of f so cs ls bs c zero at.1.0 e n m.1 d.1 at.1.1))
 
   -- the start calls none
   at_quiet : (f : ℕ) → Sound S f → (ls : List Bounds) (bs : List Bool) (c : NodesT Where) (done pc e : ℕ) → AreNodes S.code (length (S.locals f)) bs c → Names (Named S f) c → CallsNone c → Sparing (Number f) c done → Past (items_at S) f ls pc c done e → Past (shapes S) f ls pc c done e
@@ -141,7 +141,7 @@ module _ (S : Setting) (boot rest : ℕ) (card : Option (List ℕ)) (ok : IsCard
   at_quiet f so ls bs (Again k c) done pc e n m q sp at = (at.0, (at.1.0, at_quiet f so ls bs c zero at.1.0 e n.1 m q sp at.1.1))
   at_quiet f so ls bs (Return w c) done pc e n m q sp at =
       let d = halves (Number f) (are_others (maybe w)) (spares c zero) sp in
-      (record { named = m.0.0; stays = all_stay S f (Number f) (maybe w) d.0 m.0.0; then = at.0.0; stands = at.0.1; passes = at.0.2 }, (at.1.0, at_quiet f so ls bs c zero at.1.0 e n m.1 q d.1 at.1.1))
+      (record { named = m.0.0; stays = all_stay S f (Number f) (maybe w) d.0 m.0.0; then = at.0.0; stands = at.0.1; out = at.0.2; passes = at.0.3; exit = at.0.4 }, (at.1.0, at_quiet f so ls bs c zero at.1.0 e n m.1 q d.1 at.1.1))
 
   pub linked : ProgramAt S boot → Linked S card boot rest
   linked at = record {

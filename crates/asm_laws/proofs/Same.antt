@@ -89,7 +89,7 @@ module _ (x : CodeT Where) (W : Whole) (fr : ℕ → Frame) (same : (g : ℕ) �
   call_same : (F : Frame) (t : Option Where) (g : ℕ) (args : List Where) → g < length x.functions → call_items (framed W fr) F t g args ≡ call_items W F t g args
   call_same F t g args lt = ap (λ G. args_items F G (W.params g) args ++ call_item W g ∷ keeps_some F t) (same g lt)
 
-  test_same : (m : ℕ) (F : Frame) (out to : ℕ) (c : NodesT Where) (done : ℕ) (bs : List Bool) → AreNodes x m bs c → test_items (framed W fr) F out to c done ≡ test_items W F out to c done
+  test_same : (m : ℕ) (F : Frame) (out : Option ℕ) (to : ℕ) (c : NodesT Where) (done : ℕ) (bs : List Bool) → AreNodes x m bs c → test_items (framed W fr) F out to c done ≡ test_items W F out to c done
   test_same m F out to (Do o c) zero bs ok =
       let g = group_same W fr F o c in
       let k = more_same W fr F o c in
@@ -106,7 +106,7 @@ module _ (x : CodeT Where) (W : Whole) (fr : ℕ → Frame) (same : (g : ℕ) �
   test_same m F out to (Return p c) done bs ok = test_same m F out to c 0 bs ok
 
   mutual
-    past_same : (m : ℕ) (F : Frame) (out : ℕ) (c : NodesT Where) (done : ℕ) (last : Behind) (bs : List Bool) (ls : List ℕ) (n : ℕ) → AreNodes x m bs c → items_past (framed W fr) F out last ls n c done ≡ items_past W F out last ls n c done
+    past_same : (m : ℕ) (F : Frame) (out : Option ℕ) (c : NodesT Where) (done : ℕ) (last : Behind) (bs : List Bool) (ls : List ℕ) (n : ℕ) → AreNodes x m bs c → items_past (framed W fr) F out last ls n c done ≡ items_past W F out last ls n c done
     past_same m F out Stop done last bs ls n ok = refl
     past_same m F out (Do o c) zero last bs ls n ok =
         let g = group_same W fr F o c in
@@ -132,7 +132,7 @@ module _ (x : CodeT Where) (W : Whole) (fr : ℕ → Frame) (same : (g : ℕ) �
     past_same m F out (Again k c) done last bs ls n ok = ap (λ y. again ls k (ends last c) ++ y) (past_same m F out c 0 last bs ls n ok.1)
     past_same m F out (Return p c) done last bs ls n ok = ap (λ y. returning F p out (is_end (ends last c)) ++ y) (past_same m F out c 0 last bs ls n ok)
 
-    part_same : (m : ℕ) (F : Frame) (out : ℕ) (c : NodesT Where) (bs : List Bool) (ls : List ℕ) (n : ℕ) → AreNodes x m bs c → part_items (framed W fr) F out ls n c ≡ part_items W F out ls n c
+    part_same : (m : ℕ) (F : Frame) (out : Option ℕ) (c : NodesT Where) (bs : List Bool) (ls : List ℕ) (n : ℕ) → AreNodes x m bs c → part_items (framed W fr) F out ls n c ≡ part_items W F out ls n c
     part_same m F out (Do o c) bs ls n ok = part_same m F out c bs ls n ok.1
     part_same m F out (Choose p a b c) bs ls n ok = past_same m F out a 0 Turn bs ls (n + 1) ok.0
     part_same m F out Stop bs ls n ok = refl
@@ -143,7 +143,7 @@ module _ (x : CodeT Where) (W : Whole) (fr : ℕ → Frame) (same : (g : ℕ) �
     part_same m F out (Again k c) bs ls n ok = refl
     part_same m F out (Return p c) bs ls n ok = refl
 
-  pub code_same : (m : ℕ) (F : Frame) (out : ℕ) (c : NodesT Where) (bs : List Bool) (ls : List ℕ) (n : ℕ) → AreNodes x m bs c → code_items (framed W fr) F out ls n c ≡ code_items W F out ls n c
+  pub code_same : (m : ℕ) (F : Frame) (out : Option ℕ) (c : NodesT Where) (bs : List Bool) (ls : List ℕ) (n : ℕ) → AreNodes x m bs c → code_items (framed W fr) F out ls n c ≡ code_items W F out ls n c
   code_same m F out c bs ls n ok = past_same m F out c 0 End bs ls n ok
 
   abbrev own_of : (f n : ℕ) → Frame → List AsmItem → List AsmItem
@@ -151,7 +151,7 @@ module _ (x : CodeT Where) (W : Whole) (fr : ℕ → Frame) (same : (g : ℕ) �
 
   function_same : (f n : ℕ) (g : FunctionT Where) → f < length x.functions → AreNodes x (length g.locals) [] g.body → function_items (framed W fr) f n g.body ≡ function_items W f n g.body
   function_same f n g lt ok =
-      ap (λ F. own_of f n F (code_items (framed W fr) F n [] (n + 1) g.body)) (same f lt) ∙ ap (own_of f n (W.frames f)) (code_same (length g.locals) (W.frames f) n g.body [] [] (n + 1) ok)
+      ap (λ F. own_of f n F (code_items (framed W fr) F None [] (n + 1) g.body)) (same f lt) ∙ ap (own_of f n (W.frames f)) (code_same (length g.locals) (W.frames f) None g.body [] [] (n + 1) ok)
 
   functions_same : (f n : ℕ) (gs : List (FunctionT Where)) → f + length gs ≡ length x.functions → AllOf (λ g. AreNodes x (length g.locals) [] g.body) gs → functions_items (framed W fr) f n gs ≡ functions_items W f n gs
   functions_same f n [] count ok = refl
@@ -160,6 +160,6 @@ module _ (x : CodeT Where) (W : Whole) (fr : ℕ → Frame) (same : (g : ℕ) �
 
   pub program_same : AreNodes x (length x.start.locals) [] x.start.body → AllOf (λ g. AreNodes x (length g.locals) [] g.body) x.functions → program_items (framed W fr) x ≡ program_items W x
   program_same ok each =
-      let p = code_same (length x.start.locals) start_frame 0 x.start.body [] [] 1 ok in
+      let p = code_same (length x.start.locals) start_frame (Some 0) x.start.body [] [] 1 ok in
       let q = functions_same 0 (1 + labels x.start.body) x.functions (omega arith) each in
       λ i. (p i ++ closing_items W x.main) ++ (q i ++ literals_items 0 x.literals)

@@ -32,7 +32,7 @@ use Rattle.asm_laws.specs.Pieces.{register, is_in, turned}
 use Rattle.asm_laws.specs.Framing.{frame_made, frame_gone}
 use Rattle.asm_laws.specs.declared.behind.Behind.{Behind}
 use Rattle.asm_laws.specs.declared.behind.Behind.TheVariants.{Other, End, Turn}
-use Rattle.asm_laws.specs.inner.Emitted.{labels, enclosing, jump, jump_unless, mark, choice, one_way, alone, left_to, ends, jump_when, is_stop, enclosed, returning, items_past, code_items, entry_items, exit_items, function_items, functions_items, functions_labels, call_item, closing_items, start_items, program_items, labels_of, inside, is_end, is_turn, again, rotated, looped, is_tested, part_items, test_items}
+use Rattle.asm_laws.specs.inner.Emitted.{labels, enclosing, jump, jump_unless, mark, choice, one_way, alone, left_to, ends, jump_when, is_stop, enclosed, leaving, returning, items_past, code_items, entry_items, exit_items, function_items, functions_items, functions_labels, call_item, closing_items, start_items, program_items, labels_of, inside, is_end, is_turn, again, rotated, looped, is_tested, part_items, test_items}
 use Rattle.asm_laws.proofs.Ordering.{in_order_few}
 use Rattle.asm_laws.specs.declared.copying.Copying.{Copying}
 use Rattle.asm_laws.specs.Copies.{copy_of, copy_at, items_from, copy_or}
@@ -320,9 +320,20 @@ enclosed_size n w a le =
     let x3 = one_item (mark (n + 1)) 0 (omega arith) in
     omega (arith, x1, x2, x3, le)
 
-returning_size : (F : Frame) (p : Option Where) (out : ℕ) (last : Bool) → size (returning F p out last) ≤ 8
+gone_size : (n : ℕ) → size (frame_gone n) ≤ 3
+gone_size n = go (n == 0)
+  where
+    go : (b : Bool) → size (cond b (item.Op (instr.Plain RET) ∷ []) (item.Op (instr.Two IADD 15 (src.Imm (Left n))) ∷ item.Op (instr.Plain RET) ∷ [])) ≤ 3
+    go true = one_item (item.Op (instr.Plain RET)) 3 (omega arith)
+    go false = two_items (item.Op (instr.Two IADD 15 (src.Imm (Left n)))) (item.Op (instr.Plain RET)) 2 1 (omega arith) (omega arith)
+
+leaving_size : (F : Frame) (out : Option ℕ) → size (leaving F out) ≤ 3
+leaving_size F None = gone_size F.size
+leaving_size F (Some n) = one_item (jump n) 3 (omega arith)
+
+returning_size : (F : Frame) (p : Option Where) (out : Option ℕ) (last : Bool) → size (returning F p out last) ≤ 8
 returning_size F p out true = let x = total_append (giving F p) [] in omega (arith, x, total_none, giving_size F p)
-returning_size F p out false = let x = total_append (giving F p) (jump out ∷ []) in let r = one_item (jump out) 2 (omega arith) in omega (arith, x, r, giving_size F p)
+returning_size F p out false = let x = total_append (giving F p) (leaving F out) in omega (arith, x, leaving_size F out, giving_size F p)
 
 jump_size : (n : ℕ) → item_size (jump n) ≤ 2
 jump_size n = omega arith
@@ -360,7 +371,7 @@ test_size F p to xs =
 abbrev pub Counts : CodeT Where → Whole → Type 0
 Counts x W = (g n : ℕ) → parameter_count x g ≡ Some n → n ≡ length (W.params g)
 
-module _ (x : CodeT Where) (W : Whole) (counts : Counts x W) (m : ℕ) (F : Frame) (out : ℕ) where
+module _ (x : CodeT Where) (W : Whole) (counts : Counts x W) (m : ℕ) (F : Frame) (out : Option ℕ) where
   tests_size : (c : NodesT Where) (done : ℕ) (bs : List Bool) (to : ℕ) → AreNodes x m bs c → size (test_items W F out to c done) ≤ nodes_weight c
   tests_size Stop done bs to ok = omega (arith, total_none)
   tests_size (Do o c) zero bs to ok =
@@ -440,13 +451,6 @@ made_size n = go (n == 0)
     go true = omega (arith, total_none)
     go false = one_item (item.Op (instr.Two ISUB 15 (src.Imm (Left n)))) 4 (omega arith)
 
-gone_size : (n : ℕ) → size (frame_gone n) ≤ 3
-gone_size n = go (n == 0)
-  where
-    go : (b : Bool) → size (cond b (item.Op (instr.Plain RET) ∷ []) (item.Op (instr.Two IADD 15 (src.Imm (Left n))) ∷ item.Op (instr.Plain RET) ∷ [])) ≤ 3
-    go true = one_item (item.Op (instr.Plain RET)) 3 (omega arith)
-    go false = two_items (item.Op (instr.Two IADD 15 (src.Imm (Left n)))) (item.Op (instr.Plain RET)) 2 1 (omega arith) (omega arith)
-
 module _ (x : CodeT Where) (W : Whole) (counts : Counts x W) where
   abbrev Sound : FunctionT Where → Type 0
   Sound f = AreNodes x (length f.locals) [] f.body
@@ -454,13 +458,13 @@ module _ (x : CodeT Where) (W : Whole) (counts : Counts x W) where
   function_size : (f n : ℕ) (g : FunctionT Where) → Sound g → size (function_items W f n g.body) ≤ function_weight g
   function_size f n g ok =
       let F = W.frames f in
-      let x0 = total_append (entry_items W f F) (code_items W F n [] (n + 1) g.body ++ exit_items n F) in
-      let y = total_append (code_items W F n [] (n + 1) g.body) (exit_items n F) in
+      let x0 = total_append (entry_items W f F) (code_items W F None [] (n + 1) g.body ++ exit_items n F) in
+      let y = total_append (code_items W F None [] (n + 1) g.body) (exit_items n F) in
       let e1 = total_more (item.Label (function_label W.names f)) (frame_made F.size) in
       let e2 = total_more (mark n) (frame_gone F.size) in
       let made = made_size F.size in
       let gone = gone_size F.size in
-      omega (arith, x0, y, e1, e2, made, gone, code_size x W counts (length g.locals) F n g.body [] [] (n + 1) ok)
+      omega (arith, x0, y, e1, e2, made, gone, code_size x W counts (length g.locals) F None g.body [] [] (n + 1) ok)
 
   functions_size : (f n : ℕ) (gs : List (FunctionT Where)) → AllOf Sound gs → size (functions_items W f n gs) ≤ sum_by function_weight gs
   functions_size f n [] ok = omega (arith, total_none)
@@ -470,9 +474,9 @@ module _ (x : CodeT Where) (W : Whole) (counts : Counts x W) where
 
   start_size : (main : ℕ) (g : FunctionT Where) → Sound g → size (start_items W main g.body) ≤ nodes_weight g.body + 4
   start_size main g ok =
-      let y = total_append (code_items W start_frame 0 [] 1 g.body) (closing_items W main) in
+      let y = total_append (code_items W start_frame (Some 0) [] 1 g.body) (closing_items W main) in
       let c = three_items (mark 0) (call_item W main) (item.Op (instr.Plain HLT)) 0 2 1 (omega arith) (omega arith) (omega arith) in
-      omega (arith, y, c, code_size x W counts (length g.locals) start_frame 0 g.body [] [] 1 ok)
+      omega (arith, y, c, code_size x W counts (length g.locals) start_frame (Some 0) g.body [] [] 1 ok)
 
 integers_size : (bytes : List ℕ) → size (map item.Integer bytes) ≡ length bytes
 integers_size [] = total_none

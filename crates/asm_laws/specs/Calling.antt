@@ -1,5 +1,5 @@
 -- How the machine holds the states of placed code, and where its parts stand.
-use Rattle.std.specs.Prelude.{◌≡◌, ℕ, ◌<◌, true, List, [], length, get_or, Option, Some}
+use Rattle.std.specs.Prelude.{◌≡◌, ℕ, ◌<◌, ◌⊎◌, true, List, [], length, get_or, Option, Some}
 use Rattle.v32_isa.specs.State.{register_of, word_at}
 use Rattle.v32_isa.specs.State as machine
 use Rattle.mid_code.specs.declared.placed.Where.{Where}
@@ -41,7 +41,7 @@ pub record Mach (S : Setting) (κ : Ctx) (s : State Where) (m : machine.State) :
   pub like : (r : ℕ) → r < (S.whole.frames κ.fn).registers → registers r ≡ words.regs r
   pub held : Held S.console (having registers words) m
 
--- at a function's end, with the result in register 9
+-- where a function ends, with the result in register 9
 pub record Given (S : Setting) (κ : Ctx) (s : State Where) (m : machine.State) : Type 0 where
   pub place : ℕ → ℕ
   pub words : Addr
@@ -63,6 +63,12 @@ pub record Counted (b : NodesT Where) (s : State Where) : Type 0 where
   pub count : (y : Copying) → copy_of b ≡ Some y → (n : ℕ) × (s.cells (Reg y.count) ≡ Num n) × (is_count (Some n) ≡ true)
   pub one : (y : Copying) → copy_of b ≡ Some y → s.cells (Reg y.one) ≡ Num 1
 
+-- A function ends at an address: its body does, or its frame is taken away there, and it goes back. The start was not called and cannot.
+abbrev pub ExitAt : Setting → (f pc : ℕ) → Type 0
+ExitAt S f pc =
+    (pc ≡ S.leaves f)
+    ⊎ ((S.called_as f ≡ Some f) × (e : ℕ) × Stand S.console.words S.address pc (frame_gone (S.whole.frames f).size) e)
+
 abbrev pub lang : Setting → Lang Where
 lang S = over_worlds registers_and_slots S.code S.frames
 
@@ -77,7 +83,7 @@ holder S = record {
   work = λ s. s.world.work;
   fn = λ κ. κ.fn;
   entry = S.enters;
-  way_out = S.leaves;
+  exits = ExitAt S;
   known = Counted;
 }
 
@@ -91,13 +97,15 @@ pub record CallAt (S : Setting) (f pc : ℕ) (t : Option Where) (g : ℕ) (args 
   pub count : length args ≡ length (S.whole.params g)
   pub stands : Stand S.console.words S.address pc (call_items S.whole (S.whole.frames f) t g args) p
 
--- a result is given, and the function's end comes next
+-- a result is given, and then the function ends
 pub record GivingAt (S : Setting) (f pc : ℕ) (w : Option Where) : Type 0 where
   pub named : AllOf (Named S f) (maybe w)
   pub stays : AllOf (Stays (S.whole.frames f).registers) (maybe w)
   pub then : ℕ
   pub stands : Stand S.console.words S.address pc (giving (S.whole.frames f) w) then
-  pub passes : Passes S.console.words then (S.leaves f)
+  pub out : ℕ
+  pub passes : Passes S.console.words then out
+  pub exit : ExitAt S f out
 
 abbrev pub shapes : Setting → Shapes
 shapes S = record {

@@ -21,7 +21,7 @@ use Rattle.asm_laws.specs.Spare.{Sparing}
 use Rattle.asm_laws.specs.Tests.{Tests}
 use Rattle.asm_laws.specs.Framing.{frame_made, frame_gone}
 use Rattle.asm_laws.specs.Holds.{Setting, local_offset, Named, Fits, depth_of}
-use Rattle.asm_laws.specs.Calling.{Callable}
+use Rattle.asm_laws.specs.Calling.{Callable, ExitAt}
 use Rattle.asm_laws.specs.Laid.{Laid}
 
 -- the items of each part, with nothing said of places and numbers
@@ -32,7 +32,8 @@ items_at S = record {
       × (more ≡ group_more S.whole (S.whole.frames f) o c);
   call = λ f pc t g args p. Stand S.console.words S.address pc (call_items S.whole (S.whole.frames f) t g args) p;
   test = λ f pc w other next. Tests S.console.words S.address (S.whole.frames f) pc w other next;
-  giving = λ f pc w. (q : ℕ) × Stand S.console.words S.address pc (giving (S.whole.frames f) w) q × Passes S.console.words q (S.leaves f);
+  giving = λ f pc w. (q : ℕ) × Stand S.console.words S.address pc (giving (S.whole.frames f) w) q
+      × (out : ℕ) × Passes S.console.words q out × ExitAt S f out;
   copy = λ f pc b k p. (y : Copying) × (copy_at k b ≡ Some y) × Stand S.console.words S.address pc (copy_items y) p;
 }
 

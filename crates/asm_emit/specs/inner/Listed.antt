@@ -183,7 +183,7 @@ module _ (W : Whole) (F : Frame) where
       front_items W F (before x (joined rest)) k
       ++ onward (front_more W F (before x (joined rest)) k) (own_test to x) (list_test to rest) (list_test to rest 0)
 
-module _ (W : Whole) (F : Frame) (out : ℕ) where
+module _ (W : Whole) (F : Frame) (out : Option ℕ) where
   abbrev mutual
     pub node_items : (last : Behind) → List ℕ → ℕ → NodeT Where → List AsmItem
     node_items last ls n (DoN o) = do_items W F o

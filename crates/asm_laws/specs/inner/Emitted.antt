@@ -128,11 +128,16 @@ is_tested (Do o c) = is_tested c
 is_tested (Choose p a b c) = is_stop b && (is_stop c && is_round a)
 is_tested _ = false
 
--- a result is given back in register 9, by a jump to the function's end where that does not come next
-abbrev pub returning : Frame → Option Where → ℕ → (last : Bool) → List AsmItem
-returning F p out last = giving F p ++ cond last [] (jump out ∷ [])
+-- What leaves a function: it takes its frame away and goes back. The start, which was not called, jumps to the label that is given.
+abbrev pub leaving : Frame → (out : Option ℕ) → List AsmItem
+leaving F None = frame_gone F.size
+leaving F (Some n) = jump n ∷ []
 
-module _ (W : Whole) (F : Frame) (out : ℕ) where
+-- a result is given back in register 9, and the function is left, where its end does not come next
+abbrev pub returning : Frame → Option Where → (out : Option ℕ) → (last : Bool) → List AsmItem
+returning F p out last = giving F p ++ cond last [] (leaving F out)
+
+module _ (W : Whole) (F : Frame) (out : Option ℕ) where
   -- the operations and the test of such a loop, which goes to a label; so many operations in front are done already
   abbrev pub test_items : (to : ℕ) → NodesT Where → (done : ℕ) → List AsmItem
   test_items to (Do o c) zero = group_items W F o c ++ test_items to c (group_more W F o c)
@@ -186,7 +191,7 @@ exit_items n F = mark n ∷ frame_gone F.size
 
 -- the items of a function behind its label
 abbrev pub own_items : Whole → ℕ → ℕ → NodesT Where → List AsmItem
-own_items W f n body = frame_made (W.frames f).size ++ (code_items W (W.frames f) n [] (n + 1) body ++ exit_items n (W.frames f))
+own_items W f n body = frame_made (W.frames f).size ++ (code_items W (W.frames f) None [] (n + 1) body ++ exit_items n (W.frames f))
 
 abbrev pub function_items : Whole → ℕ → ℕ → NodesT Where → List AsmItem
 function_items W f n body = items.Label (function_label W.names f) ∷ own_items W f n body
@@ -208,7 +213,7 @@ abbrev pub closing_items : Whole → ℕ → List AsmItem
 closing_items W main = mark 0 ∷ call_item W main ∷ items.Op (instr.Plain HLT) ∷ []
 
 abbrev pub start_items : Whole → ℕ → NodesT Where → List AsmItem
-start_items W main body = code_items W start_frame 0 [] 1 body ++ closing_items W main
+start_items W main body = code_items W start_frame (Some 0) [] 1 body ++ closing_items W main
 
 -- the whole program: the start, the functions in order, the literals
 abbrev pub program_items : Whole → CodeT Where → List AsmItem

@@ -18,16 +18,16 @@ use Rattle.mid_code.specs.declared.placed.Where.{Where}
 use Rattle.mid_code.specs.declared.placed.Where.TheVariants.{Reg, Slot}
 use Rattle.mid_code.specs.Code.{OpT, ConstO, NullO, MoveO, OneO, TwoO, GlobalO, LocalO, LiteralO, CardO, StepO, ApartO, PtrTestO, LoadO, StoreO, FreshO, EndO, InO, OutO, WaitO, HaltO, NodesT, Stop, Do, Call, Choose, Block, Loop, Leave, Again, Return}
 use Rattle.asm_laws.specs.Moves.{Move, in_order}
-use Rattle.asm_laws.specs.Operations.{Frame, Whole, keep, fetches, keeps, keeps_some, hand, brings, takes, aim, lays, moves, changes, is_direct, in_place, apart, is_turned, turned_or_apart, computes, slot_arg, slot_args, moved_items, args_items, call_items, op_items, in_one, one_or_more, more_of, giving, word_put, put_item, puts_items, group_items, group_more}
+use Rattle.asm_laws.specs.Operations.{Frame, Whole, keep, fetches, keeps, keeps_some, hand, brings, takes, aim, lays, moves, changes, is_direct, in_place, apart, is_turned, turned_or_apart, computes, slot_arg, slot_args, moved_items, args_items, call_items, op_items, in_one, one_or_more, more_of, giving, word_put, put_item, puts_items, group_items, giving_left, next_items, next_more}
 use Rattle.asm_laws.specs.Pieces.{register, is_in, turned}
 use Rattle.asm_laws.specs.Framing.{frame_made, frame_gone}
 use Rattle.asm_laws.specs.declared.behind.Behind.{Behind}
 use Rattle.asm_laws.specs.declared.behind.Behind.TheVariants.{Other, End, Turn}
-use Rattle.asm_laws.specs.inner.Emitted.{labels, jump, jump_unless, mark, first_part, second_part, choice, alone, left_to, ends, jump_when, is_stop, enclosed, leaving, returning, items_past, code_items, call_item, own_items, exit_items, inside, is_end, is_turn, again, rotated, looped, is_tested, part_items, test_items, enclosing}
+use Rattle.asm_laws.specs.inner.Emitted.{labels, jump, jump_unless, mark, first_part, second_part, choice, alone, left_to, ends, jump_when, is_stop, enclosed, leaving, left_by, items_past, code_items, call_item, own_items, exit_items, inside, is_end, is_turn, again, rotated, looped, is_tested, part_items, test_items, enclosing}
 use Rattle.asm_emit.specs.EmittedFrom.{IsCode}
 use Rattle.asm_laws.specs.declared.copying.Copying.{Copying}
 use Rattle.asm_laws.specs.Copies.{copy_at, copy_or, items_from}
-use Rattle.asm_laws.proofs.InOne.{TakesWord, one_or_more_is, group_is}
+use Rattle.asm_laws.proofs.InOne.{TakesWord, one_or_more_is, group_is, next_is}
 
 abbrev AreCode : List AsmItem → Type 0
 AreCode items = AllByRecursion IsCode items
@@ -169,6 +169,11 @@ module _ (W : Whole) (F : Frame) where
   group_code : (o : OpT Where) (c : NodesT Where) → AreCode (group_items W F o c)
   group_code o c = group_is W F AreCode o c (one_or_more_code o c) (λ k e. puts_code (Do o c) k)
 
+  next_code : (o : OpT Where) (c : NodesT Where) → AreCode (next_items W F o c)
+  next_code o c =
+      next_is W F AreCode (λ v. Unit {0}) o c (λ t n e. (tt, tt, λ m. tt)) (λ t k e. (tt, tt, λ m. tt)) taking_code (λ p r i lt h. (fetch_code F p r, taking_code i h), λ r q i lr lq h. (tt, taking_code i h))
+      (λ u t a b e. (fetch_code F a 9, brought_code F b 10 _ (tt, tt))) (group_code o c)
+
   copy_code : (f : Option ℕ) (y : Copying) → AreCode (items_from f y)
   copy_code None y = (tt, (tt, (tt, (tt, (tt, (tt, tt))))))
   copy_code (Some f) y = (tt, (tt, (tt, (tt, (tt, (tt, (tt, (tt, tt))))))))
@@ -184,6 +189,10 @@ module _ (W : Whole) (F : Frame) where
   giving_code : (p : Option Where) → AreCode (giving F p)
   giving_code None = tt
   giving_code (Some p) = (fetch_code F p 9, tt)
+
+  left_code : (p : Option Where) (done : ℕ) → AreCode (giving_left F p done)
+  left_code p zero = giving_code p
+  left_code p (suc k) = tt
 
   -- ---- nodes
 
@@ -207,8 +216,8 @@ module _ (W : Whole) (F : Frame) where
     test_code : (to : ℕ) (c : NodesT Where) (done : ℕ) → AreCode (test_items W F out to c done)
     test_code to Stop done = tt
     test_code to (Do o c) zero =
-        let more = group_more W F o c in
-        joined (group_items W F o c) (test_items W F out to c more) (group_code o c) (test_code to c more)
+        let more = next_more W F o c in
+        joined (next_items W F o c) (test_items W F out to c more) (next_code o c) (test_code to c more)
     test_code to (Do o c) (suc done) = test_code to c done
     test_code to (Call t g args c) done = joined (call_items W F t g args) (test_items W F out to c 0) (call_code t g args) (test_code to c 0)
     test_code to (Choose p a b c) done = brought_code F p 9 (jump_when (hand p 9) to ∷ test_items W F out to c 0) (tt, test_code to c 0)
@@ -216,14 +225,14 @@ module _ (W : Whole) (F : Frame) where
     test_code to (Loop b c) done = test_code to c 0
     test_code to (Leave k c) done = test_code to c 0
     test_code to (Again k c) done = test_code to c 0
-    test_code to (Return p c) done = test_code to c 0
+    test_code to (Return p c) done = joined (giving_left F p done) (test_items W F out to c 0) (left_code p done) (test_code to c 0)
 
     mutual
       pub past_code : (c : NodesT Where) (done : ℕ) (last : Behind) (ls : List ℕ) (n : ℕ) → AreCode (items_past W F out last ls n c done)
       past_code Stop done last ls n = tt
       past_code (Do o c) zero last ls n =
-          let more = group_more W F o c in
-          joined (group_items W F o c) (items_past W F out last ls n c more) (group_code o c) (past_code c more last ls n)
+          let more = next_more W F o c in
+          joined (next_items W F o c) (items_past W F out last ls n c more) (next_code o c) (past_code c more last ls n)
       past_code (Do o c) (suc done) last ls n = past_code c done last ls n
       past_code (Call t g args c) done last ls n = joined (call_items W F t g args) (items_past W F out last ls n c 0) (call_code t g args) (past_code c 0 last ls n)
       past_code (Choose p a b c) done last ls n =
@@ -251,9 +260,9 @@ module _ (W : Whole) (F : Frame) where
       past_code (Again k c) done last ls n =
           joined (again ls k (ends last c)) (items_past W F out last ls n c 0) (either ((k == 0) && is_turn (ends last c)) [] (jump (enclosing ls k) ∷ []) tt (tt, tt)) (past_code c 0 last ls n)
       past_code (Return p c) done last ls n =
-          joined (returning F p out (is_end (ends last c))) (items_past W F out last ls n c 0)
-          (joined (giving F p) (cond (is_end (ends last c)) [] (leaving F out)) (giving_code p) (either (is_end (ends last c)) [] (leaving F out) tt (leaving_code F out)))
-          (past_code c 0 last ls n)
+          let left = left_by F out (is_end (ends last c)) in
+          let rest = items_past W F out last ls n c 0 in
+          joined (giving_left F p done) (left ++ rest) (left_code p done) (joined left rest (either (is_end (ends last c)) [] (leaving F out) tt (leaving_code F out)) (past_code c 0 last ls n))
 
       part_code : (c : NodesT Where) (ls : List ℕ) (n : ℕ) → AreCode (part_items W F out ls n c)
       part_code Stop ls n = tt

@@ -23,15 +23,15 @@ use Rattle.mid_code.specs.Calls.{loops, CallsTo}
 use Rattle.asm_laws.specs.Names.{jump_label, function_label}
 use Rattle.asm_laws.specs.Labelled.{HasLabel}
 use Rattle.asm_laws.specs.Moves.{Move, in_order}
-use Rattle.asm_laws.specs.Operations.{Frame, Whole, keep, fetches, keeps, keeps_some, hand, brings, takes, aim, lays, moves, changes, is_direct, in_place, apart, is_turned, turned_or_apart, computes, slot_arg, slot_args, moved_items, args_items, call_items, op_items, in_one, one_or_more, more_of, giving, word_put, put_item, puts_items, group_items, group_more}
+use Rattle.asm_laws.specs.Operations.{Frame, Whole, keep, fetches, keeps, keeps_some, hand, brings, takes, aim, lays, moves, changes, is_direct, in_place, apart, is_turned, turned_or_apart, computes, slot_arg, slot_args, moved_items, args_items, call_items, op_items, in_one, one_or_more, more_of, giving, word_put, put_item, puts_items, group_items, giving_left, next_items, next_more}
 use Rattle.asm_laws.specs.Pieces.{register, is_in, turned}
 use Rattle.asm_laws.specs.Framing.{frame_made, frame_gone}
 use Rattle.asm_laws.specs.declared.behind.Behind.{Behind}
 use Rattle.asm_laws.specs.declared.behind.Behind.TheVariants.{Other, End}
-use Rattle.asm_laws.specs.inner.Emitted.{labels, enclosing, jump, jump_unless, mark, first_part, second_part, choice, one_way, alone, left_to, ends, jump_when, is_stop, enclosed, returning, items_past, code_items, call_item, own_items, exit_items, inside, is_end}
+use Rattle.asm_laws.specs.inner.Emitted.{labels, enclosing, jump, jump_unless, mark, first_part, second_part, choice, one_way, alone, left_to, ends, jump_when, is_stop, enclosed, left_by, items_past, code_items, call_item, own_items, exit_items, inside, is_end}
 use Rattle.asm_emit.specs.EmittedFrom.{IsCalled, GoesOn, AllGoOn}
 use Rattle.asm_laws.proofs.Enclosing.{innermost, further}
-use Rattle.asm_laws.proofs.InOne.{TakesWord, one_or_more_is, group_is}
+use Rattle.asm_laws.proofs.InOne.{TakesWord, one_or_more_is, group_is, next_is}
 use Rattle.asm_laws.proofs.Leaving.{left_is}
 use Rattle.asm_laws.proofs.Known.{marked_left, marked_right, function_there}
 
@@ -184,6 +184,11 @@ module _ (names : List (List ℕ)) (body : NodesT Where) where
     group_ahead : (o : OpT Where) (c : NodesT Where) (later : List AsmItem) → IsOp x m o → Ahead (group_items W F o c) later
     group_ahead o c later ok = group_is W F (λ xs. Ahead xs later) o c (one_or_more_ahead o c later ok) (λ k e. puts_go (Do o c) k later)
 
+    next_ahead : (o : OpT Where) (c : NodesT Where) (later : List AsmItem) → IsOp x m o → Ahead (next_items W F o c) later
+    next_ahead o c later ok =
+        next_is W F (λ xs. Ahead xs later) (λ v. Unit {0}) o c (λ t n e. (tt, tt, λ m. tt)) (λ t k e. (tt, tt, λ m. tt)) (taking_ahead later) (λ p r i lt h. (fetch_ahead F p r _, taking_ahead later i h), λ r q i lr lq h. (tt, taking_ahead later i h))
+        (λ u t a b e. (fetch_ahead F a 9 _, brought_ahead F b 10 _ later (tt, tt))) (group_ahead o c later ok)
+
     call_ahead : (t : Option Where) (g : ℕ) (args : List Where) (later : List AsmItem) → g < length x.functions → CallsTo g body → Ahead (call_items W F t g args) later
     call_ahead t g args later lt calls =
         ahead_append (args_items F (W.frames g) (W.params g) args) (call_item W g ∷ keeps_some F t) later (args_ahead F (W.frames g) (W.params g) args _) (named g lt calls, some_ahead F t later)
@@ -191,6 +196,10 @@ module _ (names : List (List ℕ)) (body : NodesT Where) where
     giving_ahead : (p : Option Where) (later : List AsmItem) → Ahead (giving F p) later
     giving_ahead None later = tt
     giving_ahead (Some p) later = (fetch_ahead F p 9 _, tt)
+
+    given_ahead : (p : Option Where) (done : ℕ) (later : List AsmItem) → Ahead (giving_left F p done) later
+    given_ahead p zero later = giving_ahead p later
+    given_ahead p (suc k) later = tt
 
     -- ---- nodes
 
@@ -258,8 +267,8 @@ module _ (names : List (List ℕ)) (body : NodesT Where) where
         ((g : ℕ) → CallsTo g c → CallsTo g body) → Ends ls later → Ahead (items_past W F None last ls n c done) later
     past_ahead Stop done last bs ls n later ok same nl none few calls on = tt
     past_ahead (Do o c) zero last bs ls n later ok same nl none few calls on =
-        let more = group_more W F o c in
-        ahead_append (group_items W F o c) (items_past W F None last ls n c more) later (group_ahead o c _ ok.0) (past_ahead c more last bs ls n later ok.1 same nl none few calls on)
+        let more = next_more W F o c in
+        ahead_append (next_items W F o c) (items_past W F None last ls n c more) later (next_ahead o c _ ok.0) (past_ahead c more last bs ls n later ok.1 same nl none few calls on)
     past_ahead (Do o c) (suc done) last bs ls n later ok same nl none few calls on = past_ahead c done last bs ls n later ok.1 same nl none few calls on
     past_ahead (Call t g args c) done last bs ls n later ok same nl none few calls on =
         ahead_append (call_items W F t g args) (items_past W F None last ls n c 0) later (call_ahead t g args _ (function_there x g (length args) ok.0) (calls g (inl refl)))
@@ -295,8 +304,9 @@ module _ (names : List (List ℕ)) (body : NodesT Where) where
     past_ahead (Again k c) done last bs ls n later ok same nl none few calls on = absurd (nl k ok.0)
     past_ahead (Return p c) done last bs ls n later ok same nl none few calls on =
         let rest = items_past W F None last ls n c 0 in
-        ahead_append (returning F p None (is_end (ends last c))) rest later (ahead_append (giving F p) (cond (is_end (ends last c)) [] (frame_gone F.size)) (rest ++ later) (giving_ahead p _) (one_of_both (is_end (ends last c)) [] (frame_gone F.size) (rest ++ later) tt (gone_ahead F.size (rest ++ later))))
-        (past_ahead c 0 last bs ls n later ok same nl none few calls on)
+        let left = left_by F None (is_end (ends last c)) in
+        ahead_append (giving_left F p done) (left ++ rest) later (given_ahead p done _)
+        (ahead_append left rest later (one_of_both (is_end (ends last c)) [] (frame_gone F.size) (rest ++ later) tt (gone_ahead F.size (rest ++ later))) (past_ahead c 0 last bs ls n later ok same nl none few calls on))
 
     pub code_ahead : (c : NodesT Where) (bs : List Bool) (ls : List ℕ) (n : ℕ) (later : List AsmItem) → AreNodes x m bs c → length ls ≡ length bs → NoLoop bs → loops c ≡ 0 → n + labels c < 2 ^ 32 - 1 →
         ((g : ℕ) → CallsTo g c → CallsTo g body) → Ends ls later → Ahead (code_items W F None ls n c) later

@@ -16,6 +16,7 @@ mod nodes;
 mod operations;
 mod pieces;
 mod program;
+mod results;
 mod scope;
 mod spare;
 mod words;

@@ -2,10 +2,10 @@
 ghost use Rattle.std.specs.Prelude.{◌≡◌, ◌+◌, ◌-◌, ◌<◌, ◌^◌, ◌++◌, ◌∷◌, [], true, map, suc, length, get_or, OnOk, IfOk};
 ghost use Rattle.kit_base.specs.Word.{add};
 ghost use Rattle.mid_code.specs.Functions.{node, nodes, listed, BlockN, LoopN};
-ghost use Rattle.asm_laws.specs.Operations.{giving, hand, brings};
+ghost use Rattle.asm_laws.specs.Operations.{hand, brings};
 ghost use Rattle.asm_laws.specs.declared.behind.Behind.TheVariants.{Other, End, Turn};
 ghost use Rattle.asm_laws.specs.inner.Emitted.{labels, enclosing, jump, jump_unless, jump_when, mark, first_part, second_part, one_way, alone};
-ghost use Rattle.asm_laws.specs.inner.Emitted.{leaving, returning, code_items, inside, is_end, is_turn, again, rotated};
+ghost use Rattle.asm_laws.specs.inner.Emitted.{leaving, left_by, code_items, inside, is_end, is_turn, again, rotated};
 ghost use Rattle.asm_emit.specs.inner.Listed.{left_in, ends_in, node_labels, list_labels, node_items, list_past};
 ghost use Rattle.asm_emit.specs.inner.Listed.{is_none, is_again, round_in, tested_in, is_operation, turn_labels, part_labels};
 ghost use Rattle.asm_emit.specs.inner.Listed.{copied_own, own_test, list_test, list_part, turn_items};
@@ -14,7 +14,7 @@ ghost use Rattle.asm_emit.specs.inner.View.{frame, whole};
 use crate::ahead::{behind, is_call, put_ahead};
 use crate::copies::{copy_at, put_copy};
 use crate::framing::put_frame_gone;
-use crate::hands::{brings, fetches, hand, op};
+use crate::hands::{brings, hand, op};
 use crate::names::jump_label;
 use crate::operations::put_op;
 use crate::scope::{Around, Scope};
@@ -186,16 +186,6 @@ fn is_tested(xs: &[Node<Where>]) -> bool
         }
     }
     false
-}
-
-/// Puts the word that a function gives back into register 9.
-fn put_giving(out: &mut Vec<AsmItem>, s: &Scope<'_>, p: Option<Where>) -> Result<(), Memory>
-    ensures { OnOk result (out.new.items ≡ out.old.items ++ giving (frame s.now) p) }
-{
-    match p {
-        Some(p) => fetches(out, s, p, 9),
-        None => Ok(()),
-    }
 }
 
 /// Goes into a block or loop whose labels begin at n.
@@ -526,18 +516,16 @@ fn put_leaving(
     }
 }
 
-/// Adds the word that is given back, and leaves the function where its end does not come next.
+/// Leaves the function behind a result, where its end does not come next.
 fn put_return(
     alloc: Global,
     out: &mut Vec<AsmItem>,
     s: &Scope<'_>,
     end: Option<u32>,
     last: Behind,
-    p: Option<Where>,
 ) -> Result<(), Memory>
-    ensures { OnOk result (out.new.items ≡ out.old.items ++ returning (frame s.now) p end (is_end last)) }
+    ensures { OnOk result (out.new.items ≡ out.old.items ++ left_by (frame s.now) end (is_end last)) }
 {
-    put_giving(out, s, p)?;
     match last {
         Behind::End => Ok(()),
         Behind::Other => put_leaving(alloc, out, s, end),
@@ -584,8 +572,8 @@ fn put_node(
             put_again(w.alloc, out, ls, *k, last)?;
             Ok(n)
         }
-        Node::Return(p) => {
-            put_return(w.alloc, out, &w.scope, w.end, last, *p)?;
+        Node::Return(_) => {
+            put_return(w.alloc, out, &w.scope, w.end, last)?;
             Ok(n)
         }
     }

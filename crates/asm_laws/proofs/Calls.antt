@@ -318,7 +318,7 @@ module _ (S : Setting) (fits : Fits S) where
         back_v = top_v
 
         link_same : (q : ℕ) → below S κ g ≤ q → q < T → gv.words.memory q ≡ a3.memory q
-        link_same q le lt = link_stays S fits κ st s1.world.store cells s1.cells h.place a3.memory gv.place a3 gv.words g q h3 gv.at (omega (arith, le, big)) le lt
+        link_same q le lt = link_stays S fits κ st s1.world.store cells gv.cells h.place a3.memory gv.place a3 gv.words g q h3 gv.at (omega (arith, le, big)) le lt
 
         -- and the way back
         link_2 : gv.words.memory (way_back G.size gv.words) ≡ next
@@ -330,7 +330,7 @@ module _ (S : Setting) (fits : Fits S) where
             returns C link κ.base S.address F (having gv.registers gv.words) m1 s1.world.store.answers G.size m1.counter gone.0 (omega (arith, back_v, low_t, big)) (omega (arith, back_v, P_top)) link_2 gv.held refl gone.1
 
         back_real : HoldsAt S κ (returned_to st s1.world.store) (after_call registers_and_slots cells) gv.place (gone_back G.size κ.base (having gv.registers gv.words))
-        back_real = back_holds S fits κ st s1.world.store cells s1.cells h.place gv.place a3 gv.words (gone_back G.size κ.base (having gv.registers gv.words)) g h3 at.depth gv.at refl refl (let q = at_a.stack.top_is in omega (arith, back_v, q, big, top_a))
+        back_real = back_holds S fits κ st s1.world.store cells gv.cells h.place gv.place a3 gv.words (gone_back G.size κ.base (having gv.registers gv.words)) g h3 at.depth gv.at refl refl (let q = at_a.stack.top_is in omega (arith, back_v, q, big, top_a))
 
         holds : HoldsAt S κ (returned_to st s1.world.store) (after_call registers_and_slots s.cells) gv.place (gone_back G.size κ.base (having gv.registers gv.words))
         holds = after_held S κ (returned_to st s1.world.store) (S.whole.frames κ.fn).registers s.cells gv.place (gone_back G.size κ.base (having gv.registers gv.words)) back_real

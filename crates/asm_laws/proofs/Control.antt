@@ -333,7 +333,9 @@ module _ (L : Lang Where) (X : Holder L) where
     -- The first operations of nodes are done, as many as are counted, and the machine stands behind them.
     nodes : (n k : ℕ) → n ≤ suc k → Before k (below L n) → (κ : X.K) (pc e : ℕ) (ls : List Bounds) (c : NodesT Where) (done : ℕ) (b : Begin) (s : L.S) (m : State) → Past H (X.fn κ) ls pc c done e → knows X c done s → DidSim X κ m b pc (front_acts L c done s) → Sim X κ m b e n ls (does L n (below L n) c s)
     nodes n k le bef κ pc e ls Stop j b s m at kn d = subst (λ q. Came X m b s q 0 0 (X.M κ s)) at d
-    nodes n k le bef κ pc e ls (Do o c) zero b s m at kn d =
+    nodes n k le bef κ pc e ls (Do o c) zero b s m (inl h) kn d =
+        after κ m b s pc 0 n n e ls (X.M κ s) (did (L.act o s) (does L n (below L n) c)) (omega arith) d (parts.made κ pc o c s d.to h d.at d.held e n ls)
+    nodes n k le bef κ pc e ls (Do o c) zero b s m (inr at) kn d =
         after κ m b s pc 0 n n e ls (X.M κ s) (did (L.act o s) (does L n (below L n) c)) (omega arith) d
         (done_sim κ d.to (begin X s) at.1 e n ls (L.act o s) (front_acts L c at.0) (does L n (below L n) c) (parts.op κ pc at.1 at.0 o c s d.to at.2 d.at d.held) (λ t q a. nodes n k le bef κ at.1 e ls c at.0 (begin X s) t d.to at.3 (parts.knows κ pc at.1 at.0 o c s t at.2 q) a))
     nodes n k le bef κ pc e ls (Do o c) (suc j) b s m at kn d =

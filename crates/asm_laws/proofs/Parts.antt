@@ -86,19 +86,19 @@ unfolding act
 when_effect m r to next v is = rw is refl
 
 -- the machine stands at an address, by a jump or without one
-record Gone (C : Console) (a : Addr) (m : machine.State) (xs : List ℕ) (to : ℕ) : Type 0 where
-  steps : ℕ
-  there : machine.State
-  by : Reaches steps m xs [] there xs
-  at : there.counter ≡ to
-  held : Held C a there
-  nine : register_of there 9 ≡ register_of m 9
-  few : steps ≤ 1
+pub record Gone (C : Console) (a : Addr) (m : machine.State) (xs : List ℕ) (to : ℕ) : Type 0 where
+  pub steps : ℕ
+  pub there : machine.State
+  pub by : Reaches steps m xs [] there xs
+  pub at : there.counter ≡ to
+  pub held : Held C a there
+  pub nine : register_of there 9 ≡ register_of m 9
+  pub few : steps ≤ 1
 
 nine_same : (m : machine.State) (to : ℕ) → register_of (going_to to m) 9 ≡ register_of m 9
 nine_same m to = refl
 
-gone : (C : Console) (a : Addr) (m : machine.State) (xs : List ℕ) (pc to : ℕ) → Held C a m → m.counter ≡ pc → Passes C.words pc to → Gone C a m xs to
+pub gone : (C : Console) (a : Addr) (m : machine.State) (xs : List ℕ) (pc to : ℕ) → Held C a m → m.counter ≡ pc → Passes C.words pc to → Gone C a m xs to
 gone C a m xs pc to h e (inl j) = record { steps = 1; there = going_to to m; by = jump_reaches C a m xs pc to h e j; at = refl; held = moved C a m to h; nine = nine_same m to; few = omega arith }
 gone C a m xs pc to h e (inr q) = record { steps = 0; there = m; by = reaches_here m xs; at = e ∙ q; held = h; nine = refl; few = omega arith }
 
@@ -139,7 +139,7 @@ module _ (S : Setting) (fits : Fits S) where
   abbrev AreLike : Ctx → (ℕ → ℕ) → Addr → Type 0
   AreLike κ registers a = (r : ℕ) → r < (S.whole.frames κ.fn).registers → registers r ≡ a.regs r
 
-  stopped : (κ : Ctx) (s t : State Where) (m : machine.State) (a : Addr) (registers : ℕ → ℕ) (w : ℕ) (f : Ending) (how end : runs.End) → AreLike κ registers a → how ≡ end → Holds S κ t a → t.world.events ≡ s.world.events → t.world.work ≡ s.world.work + w → words.HasEnded C w m s.world.store.answers how (having registers a) → Stopped (holder S) m (begin (holder S) s) t end
+  pub stopped : (κ : Ctx) (s t : State Where) (m : machine.State) (a : Addr) (registers : ℕ → ℕ) (w : ℕ) (f : Ending) (how end : runs.End) → AreLike κ registers a → how ≡ end → Holds S κ t a → t.world.events ≡ s.world.events → t.world.work ≡ s.world.work + w → words.HasEnded C w m s.world.store.answers how (having registers a) → Stopped (holder S) m (begin (holder S) s) t end
   stopped κ s t m a registers w f how end like e h ev wk f1 = record {
     steps = f1.steps;
     made = [];
@@ -841,7 +841,7 @@ module _ (S : Setting) (fits : Fits S) where
           to = g.there;
           by = g.by;
           at = g.at;
-          held = record { place = h.place; words = h.words; at = h.at; registers = h.registers; like = h.like; held = g.held; given = tt };
+          held = record { place = h.place; cells = s.cells; words = h.words; at = h.at; registers = h.registers; like = h.like; held = g.held; given = tt };
           events = sym (append-nil s.world.events);
           cost = let n = g.few in omega (arith, n);
           many = omega arith;
@@ -866,7 +866,7 @@ module _ (S : Setting) (fits : Fits S) where
           to = on.there;
           by = reaches_on 1 on.steps m u on.there xs xs xs [] [] (fetches_so C F S.address real m xs pc p 9 g.0 (real_room κ s m h) (good S fits κ p st.named.0) (omega arith) h.held e g.1) on.by;
           at = on.at;
-          held = record { place = h.place; words = h.words; at = h.at; registers = h.registers; like = h.like; held = on.held; given = subst (λ z. Stands (length s.world.store.objects) h.place (s.cells p) z) (sym (nine ∙ same_word κ s m h p st.stays.0)) (word_stands S fits κ s.world.store s.cells h.place h.words p st.named.0 h.at) };
+          held = record { place = h.place; cells = s.cells; words = h.words; at = h.at; registers = h.registers; like = h.like; held = on.held; given = subst (λ z. Stands (length s.world.store.objects) h.place (s.cells p) z) (sym (nine ∙ same_word κ s m h p st.stays.0)) (word_stands S fits κ s.world.store s.cells h.place h.words p st.named.0 h.at) };
           events = sym (append-nil s.world.events);
           cost = let n = on.few in omega (arith, n);
           many = omega arith;

@@ -9,7 +9,7 @@ use Rattle.v32_isa.proofs.Steps.{before, Reaches, Moves}
 use Rattle.obj_mem.specs.Runs.{Ending, Halted, Fault, Starved, Stray, Deep, OutOfBound}
 use Rattle.mid_code.specs.declared.placed.Where.{Where}
 use Rattle.mid_code.specs.Code.{OpT, NodesT, Stop, Do, Call, Choose, Block, Loop, Leave, Again, Return}
-use Rattle.mid_code.specs.Meaning.{Did, On, Ends, Res, Next, Leaves, Repeats, Returns, Over, Lang, node_weight, call_weight, turn_done, does, below}
+use Rattle.mid_code.specs.Meaning.{Did, On, Ends, Res, Next, Leaves, Repeats, Returns, Over, Lang, node_weight, call_weight, turn_done, did, does, below}
 use Rattle.asm_laws.specs.Placing.{Shapes, Bounds, end_of, begin_of, owed, due, Jumps, At}
 
 -- how the machine holds a state: inside a function, at its end with the result, and where the run has ended
@@ -160,6 +160,8 @@ pub record Parts (L : Lang Where) (X : Holder L) (H : Shapes) : Type 0 where
   pub none_work : (s : L.S) → X.work (L.none s) ≡ X.work s
   pub op : (κ : X.K) (pc p more : ℕ) (o : OpT Where) (c : NodesT Where) (s : L.S) (m : State) → H.op (X.fn κ) pc o c more p → m.counter ≡ pc
       → X.M κ s m → DidSim X κ m (begin X s) p (did_then (L.act o s) (front_acts L c more))
+  pub made : (κ : X.K) (pc : ℕ) (o : OpT Where) (c : NodesT Where) (s : L.S) (m : State) → H.made (X.fn κ) pc o c → m.counter ≡ pc → X.M κ s m
+      → (e n : ℕ) (ls : List Bounds) → Sim X κ m (begin X s) e n ls (did (L.act o s) (does L n (below L n) c))
   pub knows : (κ : X.K) (pc p more : ℕ) (o : OpT Where) (c : NodesT Where) (s t : L.S) → H.op (X.fn κ) pc o c more p → L.act o s ≡ On t
       → knows X c more t
   pub copy : (κ : X.K) (pc p k : ℕ) (b : NodesT Where) (s : L.S) (m : State) → H.copy (X.fn κ) pc b k p → known_at X b k s → m.counter ≡ pc → X.M κ s m

@@ -1,5 +1,5 @@
 -- The words that the items of placed code are placed as are words among which it stands.
-use Rattle.std.proofs.Common.{◌≡◌, ℕ, zero, suc, ◌+◌, ◌-◌, ◌^◌, ◌<◌, ◌≤◌, inl, inr, List, [], ◌∷◌, ◌++◌, length, Some, refl, sym, ap, ◌∙◌, subst, arith}
+use Rattle.std.proofs.Common.{◌≡◌, ℕ, zero, suc, ◌+◌, ◌-◌, ◌^◌, ◌<◌, ◌≤◌, inl, inr, List, [], ◌∷◌, ◌++◌, length, Some, None, refl, sym, ap, ◌∙◌, subst, arith}
 use Rattle.std.specs.Prelude.{Bool, false, get_or, slice_get, cond, ltb}
 use Rattle.std.proofs.lemmas.Option.{get_or_from_slice_get}
 use Rattle.std.proofs.lemmas.Bool.{lt-ltb}
@@ -37,7 +37,7 @@ use Rattle.asm_laws.proofs.Walked.{placed_stand}
 use Rattle.asm_laws.proofs.Sizes.{Counts, program_size, program_few}
 use Rattle.asm_laws.proofs.Known.{Sound, function_there, no_fault}
 use Rattle.asm_laws.proofs.Split.{split}
-use Rattle.asm_laws.proofs.CodeAt.{body_at}
+use Rattle.asm_laws.proofs.CodeAt.{function_leaves, start_leaves, body_at}
 use Rattle.asm_laws.proofs.Same.{framed, program_same}
 use Rattle.asm_laws.proofs.Found.{FoundAt, enters_of, leaves_of, functions_found}
 
@@ -118,8 +118,8 @@ module _ (x : PlacedT) (names : List (List ℕ)) (placed : IsPlaced x) (can : Ca
     abbrev a : (q : ℕ) × Stand words address 0x20000000 (start_items V x.code.main x.code.start.body) q × Stand words address q rest e
     a = split words address (start_items V x.code.main x.code.start.body) rest 0x20000000 e h
 
-    abbrev c : (q : ℕ) × Stand words address 0x20000000 (code_items V start_frame 0 [] 1 x.code.start.body) q × Stand words address q (closing_items V x.code.main) a.0
-    c = split words address (code_items V start_frame 0 [] 1 x.code.start.body) (closing_items V x.code.main) 0x20000000 a.0 a.1
+    abbrev c : (q : ℕ) × Stand words address 0x20000000 (code_items V start_frame (Some 0) [] 1 x.code.start.body) q × Stand words address q (closing_items V x.code.main) a.0
+    c = split words address (code_items V start_frame (Some 0) [] 1 x.code.start.body) (closing_items V x.code.main) 0x20000000 a.0 a.1
 
     abbrev d : (q : ℕ) × Stand words address a.0 (functions_items V 0 (1 + labels x.code.start.body) x.code.functions) q × Stand words address q (literals_items 0 x.code.literals) e
     d = split words address (functions_items V 0 (1 + labels x.code.start.body) x.code.functions) (literals_items 0 x.code.literals) a.0 e a.2
@@ -166,15 +166,15 @@ module _ (x : PlacedT) (names : List (List ℕ)) (placed : IsPlaced x) (can : Ca
         subst (λ l. FoundAt words address V g (function_at x.code g).body (enters g) l) le (subst (λ k. FoundAt words address V g (function_at x.code g).body k (leaves_of words address V 0 n x.code.functions a.0 d.0 d.1 g)) en
         (subst (λ i. FoundAt words address V i (function_at x.code g).body (enters_of words address V 0 n x.code.functions a.0 d.0 d.1 g) (leaves_of words address V 0 n x.code.functions a.0 d.0 d.1 g)) z f))
 
-    body : (has_card : Bool) (g : ℕ) → g < count_of x → BodyAt (S has_card) g
-    body has_card g lt =
+    body : (has_card : Bool) (g : ℕ) → g < count_of x → (S has_card).called_as g ≡ Some g → BodyAt (S has_card) g
+    body has_card g lt called =
         let f = found g lt in
         let few = f.few in
         record {
           begins = f.begins;
           label = f.label;
           entry = f.entry;
-          body = body_at (S has_card) g f.out f.leave x.code (length (function_at x.code g).locals) (function_at x.code g).body (f.out + 1) (enters g) (leaves g) (function_is IsPlace x.code x.code.functions g placed.code.functions lt).nodes few refl f.inner;
+          body = body_at (S has_card) g None (function_leaves (S has_card) g called) x.code (length (function_at x.code g).locals) (function_at x.code g).body (f.first + 1) (enters g) (leaves g) (function_is IsPlace x.code x.code.functions g placed.code.functions lt).nodes few refl f.inner;
           ends = f.ends;
           exit = f.exit;
         }
@@ -183,19 +183,19 @@ module _ (x : PlacedT) (names : List (List ℕ)) (placed : IsPlaced x) (can : Ca
     program_at has_card =
         let body = x.code.start.body in
         let few = few_labels in
-        let here0 = subst (λ F. Stand words address 0x20000000 (code_items V F 0 [] 1 body) c.0) (sym (ap (λ n. frame_for x n (count_of x)) (start_number (count_of x)))) c.1 in
-        let here1 = subst (λ q. Stand words address q (code_items V (frames (count_of x)) 0 [] 1 body) c.0) (sym enters_boot) here0 in
-        let here = subst (λ q. Stand words address (enters (count_of x)) (code_items V (frames (count_of x)) 0 [] 1 body) q) (sym leaves_boot) here1 in
+        let here0 = subst (λ F. Stand words address 0x20000000 (code_items V F (Some 0) [] 1 body) c.0) (sym (ap (λ n. frame_for x n (count_of x)) (start_number (count_of x)))) c.1 in
+        let here1 = subst (λ q. Stand words address q (code_items V (frames (count_of x)) (Some 0) [] 1 body) c.0) (sym enters_boot) here0 in
+        let here = subst (λ q. Stand words address (enters (count_of x)) (code_items V (frames (count_of x)) (Some 0) [] 1 body) q) (sym leaves_boot) here1 in
         record {
           opening = enters_boot;
-          start = body_at (S has_card) (count_of x) 0 (c.2.1.0 ∙ sym leaves_boot) x.code (length x.code.start.locals) body 1 (enters (count_of x)) (leaves (count_of x)) placed.code.start.function.nodes (omega (arith, few)) refl here;
+          start = body_at (S has_card) (count_of x) (Some 0) (start_leaves (S has_card) (count_of x) 0 (c.2.1.0 ∙ sym leaves_boot)) x.code (length x.code.start.locals) body 1 (enters (count_of x)) (leaves (count_of x)) placed.code.start.function.nodes (omega (arith, few)) refl here;
           last = a.0;
           closing = subst (λ q. Stand words address q (call_item V x.code.main ∷ item.Op (instr.Plain HLT) ∷ []) a.0) (c.2.1.1 ∙ sym leaves_boot) c.2.2;
-          functions = λ g call. body_of g (called_lt g call.called_as);
+          functions = λ g call. body_of g (called_lt g call.called_as) call.called_as;
         }
       where
-        body_of : (g : ℕ) → g < count_of x → BodyAt (S has_card) g
-        body_of g lt = body has_card g lt
+        body_of : (g : ℕ) → g < count_of x → (S has_card).called_as g ≡ Some g → BodyAt (S has_card) g
+        body_of g lt called = body has_card g lt called
 
     pub placed_at : e ≡ 0x20000000 + length words → length words < 0x10000000 → PlacedAt x names address enters leaves first words
     unfolding first

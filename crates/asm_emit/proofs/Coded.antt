@@ -18,16 +18,16 @@ use Rattle.mid_code.specs.declared.placed.Where.{Where}
 use Rattle.mid_code.specs.declared.placed.Where.TheVariants.{Reg, Slot}
 use Rattle.mid_code.specs.Code.{OpT, ConstO, NullO, MoveO, OneO, TwoO, GlobalO, LocalO, LiteralO, CardO, StepO, ApartO, PtrTestO, LoadO, StoreO, FreshO, EndO, InO, OutO, WaitO, HaltO, NodesT, Stop, Do, Call, Choose, Block, Loop, Leave, Again, Return}
 use Rattle.asm_laws.specs.Moves.{Move, in_order}
-use Rattle.asm_laws.specs.Operations.{Frame, Whole, keep, fetches, keeps, keeps_some, hand, brings, takes, aim, lays, moves, changes, is_direct, in_place, apart, is_turned, turned_or_apart, computes, slot_arg, slot_args, moved_items, args_items, call_items, op_items, in_one, one_or_more, more_of, giving, word_put, put_item, puts_items, group_items, group_more}
+use Rattle.asm_laws.specs.Operations.{Frame, Whole, keep, fetches, keeps, keeps_some, hand, brings, takes, aim, lays, moves, changes, is_direct, in_place, apart, is_turned, turned_or_apart, computes, slot_arg, slot_args, moved_items, args_items, call_items, op_items, in_one, one_or_more, more_of, giving, word_put, put_item, puts_items, group_items, giving_left, next_items, next_more}
 use Rattle.asm_laws.specs.Pieces.{register, is_in, turned}
 use Rattle.asm_laws.specs.Framing.{frame_made, frame_gone}
 use Rattle.asm_laws.specs.declared.behind.Behind.{Behind}
 use Rattle.asm_laws.specs.declared.behind.Behind.TheVariants.{Other, End, Turn}
-use Rattle.asm_laws.specs.inner.Emitted.{labels, jump, jump_unless, mark, first_part, second_part, choice, alone, left_to, ends, jump_when, is_stop, enclosed, returning, items_past, code_items, call_item, own_items, exit_items, inside, is_end, is_turn, again, rotated, looped, is_tested, part_items, test_items, enclosing}
+use Rattle.asm_laws.specs.inner.Emitted.{labels, jump, jump_unless, mark, first_part, second_part, choice, alone, left_to, ends, jump_when, is_stop, enclosed, leaving, left_by, items_past, code_items, call_item, own_items, exit_items, inside, is_end, is_turn, again, rotated, looped, is_tested, part_items, test_items, enclosing}
 use Rattle.asm_emit.specs.EmittedFrom.{IsCode}
 use Rattle.asm_laws.specs.declared.copying.Copying.{Copying}
 use Rattle.asm_laws.specs.Copies.{copy_at, copy_or, items_from}
-use Rattle.asm_laws.proofs.InOne.{TakesWord, one_or_more_is, group_is}
+use Rattle.asm_laws.proofs.InOne.{TakesWord, one_or_more_is, group_is, next_is}
 
 abbrev AreCode : List AsmItem → Type 0
 AreCode items = AllByRecursion IsCode items
@@ -106,6 +106,13 @@ moved_code F ((t, s) ∷ ms) = (fetch_code F s (register t), moved_code F ms)
 args_code : (F G : Frame) (ps args : List Where) → AreCode (args_items F G ps args)
 args_code F G ps args = joined (slot_args F G ps args) (moved_items F (in_order ps args)) (slots_code F G ps args) (moved_code F (in_order ps args))
 
+gone_code : (size : ℕ) → AreCode (frame_gone size)
+gone_code size = either (size == 0) (item.Op (instr.Plain RET) ∷ []) (item.Op (instr.Two IADD 15 (src.Imm (Left size))) ∷ item.Op (instr.Plain RET) ∷ []) (tt, tt) (tt, (tt, tt))
+
+leaving_code : (F : Frame) (out : Option ℕ) → AreCode (leaving F out)
+leaving_code F None = gone_code F.size
+leaving_code F (Some n) = (tt, tt)
+
 module _ (W : Whole) (F : Frame) where
   op_code : (o : OpT Where) → AreCode (op_items W F o)
   unfolding op_items
@@ -162,6 +169,11 @@ module _ (W : Whole) (F : Frame) where
   group_code : (o : OpT Where) (c : NodesT Where) → AreCode (group_items W F o c)
   group_code o c = group_is W F AreCode o c (one_or_more_code o c) (λ k e. puts_code (Do o c) k)
 
+  next_code : (o : OpT Where) (c : NodesT Where) → AreCode (next_items W F o c)
+  next_code o c =
+      next_is W F AreCode (λ v. Unit {0}) o c (λ t n e. (tt, tt, λ m. tt)) (λ t k e. (tt, tt, λ m. tt)) taking_code (λ p r i lt h. (fetch_code F p r, taking_code i h), λ r q i lr lq h. (tt, taking_code i h))
+      (λ u t a b e. (fetch_code F a 9, brought_code F b 10 _ (tt, tt))) (group_code o c)
+
   copy_code : (f : Option ℕ) (y : Copying) → AreCode (items_from f y)
   copy_code None y = (tt, (tt, (tt, (tt, (tt, (tt, tt))))))
   copy_code (Some f) y = (tt, (tt, (tt, (tt, (tt, (tt, (tt, (tt, tt))))))))
@@ -177,6 +189,10 @@ module _ (W : Whole) (F : Frame) where
   giving_code : (p : Option Where) → AreCode (giving F p)
   giving_code None = tt
   giving_code (Some p) = (fetch_code F p 9, tt)
+
+  left_code : (p : Option Where) (done : ℕ) → AreCode (giving_left F p done)
+  left_code p zero = giving_code p
+  left_code p (suc k) = tt
 
   -- ---- nodes
 
@@ -196,12 +212,12 @@ module _ (W : Whole) (F : Frame) where
   rotated_code : (n : ℕ) (part test : List AsmItem) → AreCode part → AreCode test → AreCode (rotated n part test)
   rotated_code n part test hp ht = (tt, (tt, joined part (mark n ∷ (test ++ mark (n + 1) ∷ [])) hp (tt, joined test (mark (n + 1) ∷ []) ht (tt, tt))))
 
-  module _ (out : ℕ) where
+  module _ (out : Option ℕ) where
     test_code : (to : ℕ) (c : NodesT Where) (done : ℕ) → AreCode (test_items W F out to c done)
     test_code to Stop done = tt
     test_code to (Do o c) zero =
-        let more = group_more W F o c in
-        joined (group_items W F o c) (test_items W F out to c more) (group_code o c) (test_code to c more)
+        let more = next_more W F o c in
+        joined (next_items W F o c) (test_items W F out to c more) (next_code o c) (test_code to c more)
     test_code to (Do o c) (suc done) = test_code to c done
     test_code to (Call t g args c) done = joined (call_items W F t g args) (test_items W F out to c 0) (call_code t g args) (test_code to c 0)
     test_code to (Choose p a b c) done = brought_code F p 9 (jump_when (hand p 9) to ∷ test_items W F out to c 0) (tt, test_code to c 0)
@@ -209,14 +225,14 @@ module _ (W : Whole) (F : Frame) where
     test_code to (Loop b c) done = test_code to c 0
     test_code to (Leave k c) done = test_code to c 0
     test_code to (Again k c) done = test_code to c 0
-    test_code to (Return p c) done = test_code to c 0
+    test_code to (Return p c) done = joined (giving_left F p done) (test_items W F out to c 0) (left_code p done) (test_code to c 0)
 
     mutual
       pub past_code : (c : NodesT Where) (done : ℕ) (last : Behind) (ls : List ℕ) (n : ℕ) → AreCode (items_past W F out last ls n c done)
       past_code Stop done last ls n = tt
       past_code (Do o c) zero last ls n =
-          let more = group_more W F o c in
-          joined (group_items W F o c) (items_past W F out last ls n c more) (group_code o c) (past_code c more last ls n)
+          let more = next_more W F o c in
+          joined (next_items W F o c) (items_past W F out last ls n c more) (next_code o c) (past_code c more last ls n)
       past_code (Do o c) (suc done) last ls n = past_code c done last ls n
       past_code (Call t g args c) done last ls n = joined (call_items W F t g args) (items_past W F out last ls n c 0) (call_code t g args) (past_code c 0 last ls n)
       past_code (Choose p a b c) done last ls n =
@@ -244,9 +260,9 @@ module _ (W : Whole) (F : Frame) where
       past_code (Again k c) done last ls n =
           joined (again ls k (ends last c)) (items_past W F out last ls n c 0) (either ((k == 0) && is_turn (ends last c)) [] (jump (enclosing ls k) ∷ []) tt (tt, tt)) (past_code c 0 last ls n)
       past_code (Return p c) done last ls n =
-          joined (returning F p out (is_end (ends last c))) (items_past W F out last ls n c 0)
-          (joined (giving F p) (cond (is_end (ends last c)) [] (jump out ∷ [])) (giving_code p) (either (is_end (ends last c)) [] (jump out ∷ []) tt (tt, tt)))
-          (past_code c 0 last ls n)
+          let left = left_by F out (is_end (ends last c)) in
+          let rest = items_past W F out last ls n c 0 in
+          joined (giving_left F p done) (left ++ rest) (left_code p done) (joined left rest (either (is_end (ends last c)) [] (leaving F out) tt (leaving_code F out)) (past_code c 0 last ls n))
 
       part_code : (c : NodesT Where) (ls : List ℕ) (n : ℕ) → AreCode (part_items W F out ls n c)
       part_code Stop ls n = tt
@@ -264,11 +280,8 @@ module _ (W : Whole) (F : Frame) where
 made_code : (size : ℕ) → AreCode (frame_made size)
 made_code size = either (size == 0) [] (item.Op (instr.Two ISUB 15 (src.Imm (Left size))) ∷ []) tt (tt, tt)
 
-gone_code : (size : ℕ) → AreCode (frame_gone size)
-gone_code size = either (size == 0) (item.Op (instr.Plain RET) ∷ []) (item.Op (instr.Two IADD 15 (src.Imm (Left size))) ∷ item.Op (instr.Plain RET) ∷ []) (tt, tt) (tt, (tt, tt))
-
 pub own_code : (W : Whole) (f n : ℕ) (body : NodesT Where) → AreCode (own_items W f n body)
 own_code W f n body =
     let F = W.frames f in
-    let items = code_items W F n [] (n + 1) body in
-    joined (frame_made F.size) (items ++ exit_items n F) (made_code F.size) (joined items (exit_items n F) (past_code W F n body 0 End [] (n + 1)) (tt, gone_code F.size))
+    let items = code_items W F None [] (n + 1) body in
+    joined (frame_made F.size) (items ++ exit_items n F) (made_code F.size) (joined items (exit_items n F) (past_code W F None body 0 End [] (n + 1)) (tt, gone_code F.size))

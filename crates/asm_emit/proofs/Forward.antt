@@ -23,15 +23,15 @@ use Rattle.mid_code.specs.Calls.{loops, CallsTo}
 use Rattle.asm_laws.specs.Names.{jump_label, function_label}
 use Rattle.asm_laws.specs.Labelled.{HasLabel}
 use Rattle.asm_laws.specs.Moves.{Move, in_order}
-use Rattle.asm_laws.specs.Operations.{Frame, Whole, keep, fetches, keeps, keeps_some, hand, brings, takes, aim, lays, moves, changes, is_direct, in_place, apart, is_turned, turned_or_apart, computes, slot_arg, slot_args, moved_items, args_items, call_items, op_items, in_one, one_or_more, more_of, giving, word_put, put_item, puts_items, group_items, group_more}
+use Rattle.asm_laws.specs.Operations.{Frame, Whole, keep, fetches, keeps, keeps_some, hand, brings, takes, aim, lays, moves, changes, is_direct, in_place, apart, is_turned, turned_or_apart, computes, slot_arg, slot_args, moved_items, args_items, call_items, op_items, in_one, one_or_more, more_of, giving, word_put, put_item, puts_items, group_items, giving_left, next_items, next_more}
 use Rattle.asm_laws.specs.Pieces.{register, is_in, turned}
 use Rattle.asm_laws.specs.Framing.{frame_made, frame_gone}
 use Rattle.asm_laws.specs.declared.behind.Behind.{Behind}
 use Rattle.asm_laws.specs.declared.behind.Behind.TheVariants.{Other, End}
-use Rattle.asm_laws.specs.inner.Emitted.{labels, enclosing, jump, jump_unless, mark, first_part, second_part, choice, one_way, alone, left_to, ends, jump_when, is_stop, enclosed, returning, items_past, code_items, call_item, own_items, exit_items, inside, is_end}
+use Rattle.asm_laws.specs.inner.Emitted.{labels, enclosing, jump, jump_unless, mark, first_part, second_part, choice, one_way, alone, left_to, ends, jump_when, is_stop, enclosed, left_by, items_past, code_items, call_item, own_items, exit_items, inside, is_end}
 use Rattle.asm_emit.specs.EmittedFrom.{IsCalled, GoesOn, AllGoOn}
 use Rattle.asm_laws.proofs.Enclosing.{innermost, further}
-use Rattle.asm_laws.proofs.InOne.{TakesWord, one_or_more_is, group_is}
+use Rattle.asm_laws.proofs.InOne.{TakesWord, one_or_more_is, group_is, next_is}
 use Rattle.asm_laws.proofs.Leaving.{left_is}
 use Rattle.asm_laws.proofs.Known.{marked_left, marked_right, function_there}
 
@@ -184,6 +184,11 @@ module _ (names : List (List ℕ)) (body : NodesT Where) where
     group_ahead : (o : OpT Where) (c : NodesT Where) (later : List AsmItem) → IsOp x m o → Ahead (group_items W F o c) later
     group_ahead o c later ok = group_is W F (λ xs. Ahead xs later) o c (one_or_more_ahead o c later ok) (λ k e. puts_go (Do o c) k later)
 
+    next_ahead : (o : OpT Where) (c : NodesT Where) (later : List AsmItem) → IsOp x m o → Ahead (next_items W F o c) later
+    next_ahead o c later ok =
+        next_is W F (λ xs. Ahead xs later) (λ v. Unit {0}) o c (λ t n e. (tt, tt, λ m. tt)) (λ t k e. (tt, tt, λ m. tt)) (taking_ahead later) (λ p r i lt h. (fetch_ahead F p r _, taking_ahead later i h), λ r q i lr lq h. (tt, taking_ahead later i h))
+        (λ u t a b e. (fetch_ahead F a 9 _, brought_ahead F b 10 _ later (tt, tt))) (group_ahead o c later ok)
+
     call_ahead : (t : Option Where) (g : ℕ) (args : List Where) (later : List AsmItem) → g < length x.functions → CallsTo g body → Ahead (call_items W F t g args) later
     call_ahead t g args later lt calls =
         ahead_append (args_items F (W.frames g) (W.params g) args) (call_item W g ∷ keeps_some F t) later (args_ahead F (W.frames g) (W.params g) args _) (named g lt calls, some_ahead F t later)
@@ -191,6 +196,10 @@ module _ (names : List (List ℕ)) (body : NodesT Where) where
     giving_ahead : (p : Option Where) (later : List AsmItem) → Ahead (giving F p) later
     giving_ahead None later = tt
     giving_ahead (Some p) later = (fetch_ahead F p 9 _, tt)
+
+    given_ahead : (p : Option Where) (done : ℕ) (later : List AsmItem) → Ahead (giving_left F p done) later
+    given_ahead p zero later = giving_ahead p later
+    given_ahead p (suc k) later = tt
 
     -- ---- nodes
 
@@ -251,56 +260,57 @@ module _ (names : List (List ℕ)) (body : NodesT Where) where
     deeper : (ls : List ℕ) (n : ℕ) (bs : List Bool) (b : Bool) → length ls ≡ length bs → length (ls ++ n ∷ []) ≡ length (b ∷ bs)
     deeper ls n bs b same = let h = length-append ls (n ∷ []) in omega (arith, h, same)
 
-    module _ (out : ℕ) where
-      past_ahead : (c : NodesT Where) (done : ℕ) (last : Behind) (bs : List Bool) (ls : List ℕ) (n : ℕ) (later : List AsmItem) → AreNodes x m bs c → length ls ≡ length bs → NoLoop bs → loops c ≡ 0 → n + labels c < 2 ^ 32 - 1 →
-          ((g : ℕ) → CallsTo g c → CallsTo g body) → Ends ls later → HasLabel later (jump_label out) → Ahead (items_past W F out last ls n c done) later
-      past_ahead Stop done last bs ls n later ok same nl none few calls on over = tt
-      past_ahead (Do o c) zero last bs ls n later ok same nl none few calls on over =
-          let more = group_more W F o c in
-          ahead_append (group_items W F o c) (items_past W F out last ls n c more) later (group_ahead o c _ ok.0) (past_ahead c more last bs ls n later ok.1 same nl none few calls on over)
-      past_ahead (Do o c) (suc done) last bs ls n later ok same nl none few calls on over = past_ahead c done last bs ls n later ok.1 same nl none few calls on over
-      past_ahead (Call t g args c) done last bs ls n later ok same nl none few calls on over =
-          ahead_append (call_items W F t g args) (items_past W F out last ls n c 0) later (call_ahead t g args _ (function_there x g (length args) ok.0) (calls g (inl refl)))
-          (past_ahead c 0 last bs ls n later ok.1 same nl none few (λ h k. calls h (inr k)) on over)
-      past_ahead (Choose p a b c) done last bs ls n later ok same nl none few calls on over =
-          let w = n + 1 + labels a in
-          let one = items_past W F out (ends last c) ls (n + 1) a 0 in
-          let first = items_past W F out Other ls (n + 1) a 0 in
-          let two = items_past W F out (ends last c) ls (w + 1) b 0 in
-          let rest = items_past W F out last ls (n + (2 + labels a + labels b)) c 0 in
-          let after = rest ++ later in
-          let ends1 = ends_later ls rest later on in
-          let over1 = marked_right rest later (jump_label out) over in
-          ahead_append (cond (is_stop b) (alone F p n (left_to ls a) one) (choice F p n w first two)) rest later
-          (chosen_ahead p n w (is_stop b) (left_to ls a) one first two after (left_ahead a bs ls after ok.0 same ends1)
-          (λ is. past_ahead a 0 (ends last c) bs ls (n + 1) ((mark n ∷ []) ++ after) ok.0 same nl (omega (arith, none)) (omega (arith, few)) (λ h k. calls h (inl k)) (ends_later ls (mark n ∷ []) after ends1) (marked_right (mark n ∷ []) after (jump_label out) over1))
-          (past_ahead a 0 Other bs ls (n + 1) ((jump w ∷ mark n ∷ []) ++ (second_part w two ++ after)) ok.0 same nl (omega (arith, none)) (omega (arith, few)) (λ h k. calls h (inl k))
-          (ends_later ls (jump w ∷ mark n ∷ []) (second_part w two ++ after) (ends_later ls (second_part w two) after ends1))
-          (marked_right (jump w ∷ mark n ∷ []) (second_part w two ++ after) (jump_label out) (marked_right (second_part w two) after (jump_label out) over1)))
-          (past_ahead b 0 (ends last c) bs ls (w + 1) ((mark w ∷ []) ++ after) ok.1 same nl (omega (arith, none)) (omega (arith, few)) (λ h k. calls h (inr (inl k))) (ends_later ls (mark w ∷ []) after ends1) (marked_right (mark w ∷ []) after (jump_label out) over1)))
-          (past_ahead c 0 last bs ls (n + (2 + labels a + labels b)) later ok.2 same nl (omega (arith, none)) (omega (arith, few)) (λ h k. calls h (inr (inr k))) on over)
-      past_ahead (Block b c) done last bs ls n later ok same nl none few calls on over =
-          let one = items_past W F out (inside (ends last c)) (ls ++ n ∷ []) (n + 2) b 0 in
-          let rest = items_past W F out last ls (n + (2 + labels b)) c 0 in
-          let after = rest ++ later in
-          let ends1 = ends_later ls (mark (n + 1) ∷ []) after (ends_later ls rest later on) in
-          let within = past_ahead b 0 (inside (ends last c)) (false ∷ bs) (ls ++ n ∷ []) (n + 2) ((mark (n + 1) ∷ []) ++ after) ok.0 (deeper ls n bs false same) (no_loop bs nl) (omega (arith, none)) (omega (arith, few)) (λ h k. calls h (inl k))
-          (ends_inside ls n ((mark (n + 1) ∷ []) ++ after) (omega (arith, few)) ends1 (inl refl)) (marked_right (mark (n + 1) ∷ []) after (jump_label out) (marked_right rest later (jump_label out) over)) in
-          ahead_append (enclosed n one) rest later (tt, ahead_append one (mark (n + 1) ∷ []) after within (tt, tt))
-          (past_ahead c 0 last bs ls (n + (2 + labels b)) later ok.1 same nl (omega (arith, none)) (omega (arith, few)) (λ h k. calls h (inr k)) on over)
-      past_ahead (Loop b c) done last bs ls n later ok same nl none few calls on over = absurd (omega (arith, none))
-      past_ahead (Leave k c) done last bs ls n later ok same nl none few calls on over =
-          let l = ok.0 in
-          (marked_right (items_past W F out last ls n c 0) later (jump_label (add (enclosing ls k) 1)) (on k (omega (arith, l, same))), past_ahead c 0 last bs ls n later ok.1 same nl none few calls on over)
-      past_ahead (Again k c) done last bs ls n later ok same nl none few calls on over = absurd (nl k ok.0)
-      past_ahead (Return p c) done last bs ls n later ok same nl none few calls on over =
-          let rest = items_past W F out last ls n c 0 in
-          ahead_append (returning F p out (is_end (ends last c))) rest later (ahead_append (giving F p) (cond (is_end (ends last c)) [] (jump out ∷ [])) (rest ++ later) (giving_ahead p _) (one_of_both (is_end (ends last c)) [] (jump out ∷ []) (rest ++ later) tt (marked_right rest later (jump_label out) over, tt)))
-          (past_ahead c 0 last bs ls n later ok same nl none few calls on over)
+    gone_ahead : (size : ℕ) (later : List AsmItem) → Ahead (frame_gone size) later
+    gone_ahead size later = one_of_both (size == 0) (item.Op (instr.Plain RET) ∷ []) (item.Op (instr.Two IADD 15 (src.Imm (Left size))) ∷ item.Op (instr.Plain RET) ∷ []) later (tt, tt) (tt, (tt, tt))
 
-      pub code_ahead : (c : NodesT Where) (bs : List Bool) (ls : List ℕ) (n : ℕ) (later : List AsmItem) → AreNodes x m bs c → length ls ≡ length bs → NoLoop bs → loops c ≡ 0 → n + labels c < 2 ^ 32 - 1 →
-          ((g : ℕ) → CallsTo g c → CallsTo g body) → Ends ls later → HasLabel later (jump_label out) → Ahead (code_items W F out ls n c) later
-      code_ahead c bs ls n later ok same nl none few calls on over = past_ahead c 0 End bs ls n later ok same nl none few calls on over
+    past_ahead : (c : NodesT Where) (done : ℕ) (last : Behind) (bs : List Bool) (ls : List ℕ) (n : ℕ) (later : List AsmItem) → AreNodes x m bs c → length ls ≡ length bs → NoLoop bs → loops c ≡ 0 → n + labels c < 2 ^ 32 - 1 →
+        ((g : ℕ) → CallsTo g c → CallsTo g body) → Ends ls later → Ahead (items_past W F None last ls n c done) later
+    past_ahead Stop done last bs ls n later ok same nl none few calls on = tt
+    past_ahead (Do o c) zero last bs ls n later ok same nl none few calls on =
+        let more = next_more W F o c in
+        ahead_append (next_items W F o c) (items_past W F None last ls n c more) later (next_ahead o c _ ok.0) (past_ahead c more last bs ls n later ok.1 same nl none few calls on)
+    past_ahead (Do o c) (suc done) last bs ls n later ok same nl none few calls on = past_ahead c done last bs ls n later ok.1 same nl none few calls on
+    past_ahead (Call t g args c) done last bs ls n later ok same nl none few calls on =
+        ahead_append (call_items W F t g args) (items_past W F None last ls n c 0) later (call_ahead t g args _ (function_there x g (length args) ok.0) (calls g (inl refl)))
+        (past_ahead c 0 last bs ls n later ok.1 same nl none few (λ h k. calls h (inr k)) on)
+    past_ahead (Choose p a b c) done last bs ls n later ok same nl none few calls on =
+        let w = n + 1 + labels a in
+        let one = items_past W F None (ends last c) ls (n + 1) a 0 in
+        let first = items_past W F None Other ls (n + 1) a 0 in
+        let two = items_past W F None (ends last c) ls (w + 1) b 0 in
+        let rest = items_past W F None last ls (n + (2 + labels a + labels b)) c 0 in
+        let after = rest ++ later in
+        let ends1 = ends_later ls rest later on in
+        ahead_append (cond (is_stop b) (alone F p n (left_to ls a) one) (choice F p n w first two)) rest later
+        (chosen_ahead p n w (is_stop b) (left_to ls a) one first two after (left_ahead a bs ls after ok.0 same ends1)
+        (λ is. past_ahead a 0 (ends last c) bs ls (n + 1) ((mark n ∷ []) ++ after) ok.0 same nl (omega (arith, none)) (omega (arith, few)) (λ h k. calls h (inl k)) (ends_later ls (mark n ∷ []) after ends1))
+        (past_ahead a 0 Other bs ls (n + 1) ((jump w ∷ mark n ∷ []) ++ (second_part w two ++ after)) ok.0 same nl (omega (arith, none)) (omega (arith, few)) (λ h k. calls h (inl k))
+        (ends_later ls (jump w ∷ mark n ∷ []) (second_part w two ++ after) (ends_later ls (second_part w two) after ends1)))
+        (past_ahead b 0 (ends last c) bs ls (w + 1) ((mark w ∷ []) ++ after) ok.1 same nl (omega (arith, none)) (omega (arith, few)) (λ h k. calls h (inr (inl k))) (ends_later ls (mark w ∷ []) after ends1)))
+        (past_ahead c 0 last bs ls (n + (2 + labels a + labels b)) later ok.2 same nl (omega (arith, none)) (omega (arith, few)) (λ h k. calls h (inr (inr k))) on)
+    past_ahead (Block b c) done last bs ls n later ok same nl none few calls on =
+        let one = items_past W F None (inside (ends last c)) (ls ++ n ∷ []) (n + 2) b 0 in
+        let rest = items_past W F None last ls (n + (2 + labels b)) c 0 in
+        let after = rest ++ later in
+        let ends1 = ends_later ls (mark (n + 1) ∷ []) after (ends_later ls rest later on) in
+        let within = past_ahead b 0 (inside (ends last c)) (false ∷ bs) (ls ++ n ∷ []) (n + 2) ((mark (n + 1) ∷ []) ++ after) ok.0 (deeper ls n bs false same) (no_loop bs nl) (omega (arith, none)) (omega (arith, few)) (λ h k. calls h (inl k))
+        (ends_inside ls n ((mark (n + 1) ∷ []) ++ after) (omega (arith, few)) ends1 (inl refl)) in
+        ahead_append (enclosed n one) rest later (tt, ahead_append one (mark (n + 1) ∷ []) after within (tt, tt))
+        (past_ahead c 0 last bs ls (n + (2 + labels b)) later ok.1 same nl (omega (arith, none)) (omega (arith, few)) (λ h k. calls h (inr k)) on)
+    past_ahead (Loop b c) done last bs ls n later ok same nl none few calls on = absurd (omega (arith, none))
+    past_ahead (Leave k c) done last bs ls n later ok same nl none few calls on =
+        let l = ok.0 in
+        (marked_right (items_past W F None last ls n c 0) later (jump_label (add (enclosing ls k) 1)) (on k (omega (arith, l, same))), past_ahead c 0 last bs ls n later ok.1 same nl none few calls on)
+    past_ahead (Again k c) done last bs ls n later ok same nl none few calls on = absurd (nl k ok.0)
+    past_ahead (Return p c) done last bs ls n later ok same nl none few calls on =
+        let rest = items_past W F None last ls n c 0 in
+        let left = left_by F None (is_end (ends last c)) in
+        ahead_append (giving_left F p done) (left ++ rest) later (given_ahead p done _)
+        (ahead_append left rest later (one_of_both (is_end (ends last c)) [] (frame_gone F.size) (rest ++ later) tt (gone_ahead F.size (rest ++ later))) (past_ahead c 0 last bs ls n later ok same nl none few calls on))
+
+    pub code_ahead : (c : NodesT Where) (bs : List Bool) (ls : List ℕ) (n : ℕ) (later : List AsmItem) → AreNodes x m bs c → length ls ≡ length bs → NoLoop bs → loops c ≡ 0 → n + labels c < 2 ^ 32 - 1 →
+        ((g : ℕ) → CallsTo g c → CallsTo g body) → Ends ls later → Ahead (code_items W F None ls n c) later
+    code_ahead c bs ls n later ok same nl none few calls on = past_ahead c 0 End bs ls n later ok same nl none few calls on
 
   made_ahead : (size : ℕ) (later : List AsmItem) → Ahead (frame_made size) later
   made_ahead size later = one_of_both (size == 0) [] (item.Op (instr.Two ISUB 15 (src.Imm (Left size))) ∷ []) later tt (tt, tt)
@@ -316,7 +326,7 @@ module _ (names : List (List ℕ)) (body : NodesT Where) where
   pub own_go_on : (x : CodeT Where) (W : Whole) → ((g : ℕ) → g < length x.functions → CallsTo g body → IsCalled names body (function_label W.names g)) → (m f n : ℕ) → AreNodes x m [] body → loops body ≡ 0 → n + 1 + labels body < 2 ^ 32 - 1 → AllGoOn names body (own_items W f n body)
   own_go_on x W named m f n ok none few =
       let F = W.frames f in
-      let items = code_items W F n [] (n + 1) body in
-      let ahead = code_ahead x W named m F n body [] [] (n + 1) (exit_items n F) ok refl (λ k h. absurd h) none few (λ g h. h) (λ k lt. absurd (omega (arith, lt))) (inl refl) in
+      let items = code_items W F None [] (n + 1) body in
+      let ahead = code_ahead x W named m F body [] [] (n + 1) (exit_items n F) ok refl (λ k h. absurd h) none few (λ g h. h) (λ k lt. absurd (omega (arith, lt))) in
       let rest = ahead_all items (exit_items n F) ahead (tt, gone_on F.size) in
       ahead_all (frame_made F.size) (items ++ exit_items n F) (made_ahead F.size (items ++ exit_items n F)) rest

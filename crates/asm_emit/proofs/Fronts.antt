@@ -10,8 +10,10 @@ use Rattle.mid_code.specs.declared.node.Op.{Op}
 use Rattle.mid_code.specs.declared.node.Op.TheVariants as op
 use Rattle.mid_code.specs.Code.{OpT, ConstO, NullO, MoveO, OneO, TwoO, GlobalO, LocalO, LiteralO, CardO, StepO, ApartO, PtrTestO, LoadO, StoreO, FreshO, EndO, InO, OutO, WaitO, HaltO, NodesT, Stop, Do, Call}
 use Rattle.mid_code.specs.Functions.{op_before, NodeT, DoN, ChooseN, BlockN, LoopN, LeaveN, AgainN, ReturnN, ListT, NoN, MoreN, before, joined}
-use Rattle.asm_laws.specs.Operations.{Frame, Whole, word_put, is_spared, with_known, in_one, put_item, puts_items}
-use Rattle.asm_emit.specs.inner.Listed.{front_put, front_summed, ahead_items, ahead_more, is_call, front_items, front_more, labels_due, led_ahead, led_behind, put_here, left_behind, puts_from, put_first, left_after, list_puts}
+use Rattle.asm_laws.specs.declared.made.Made.{Made}
+use Rattle.asm_laws.specs.Spare.{operand}
+use Rattle.asm_laws.specs.Operations.{Frame, Whole, word_put, is_spared, with_known, in_one, put_item, puts_items, given_first, made_both, made_known, made_with, first_made, made_of, made_or}
+use Rattle.asm_emit.specs.inner.Listed.{front_put, front_summed, ahead_items, ahead_more, is_call, op_made, more_ahead, front_items, front_more, labels_due, led_ahead, led_behind, put_here, left_behind, puts_from, put_first, left_after, list_puts}
 
 pub none_due : (k : Option ℕ) → labels_due k 0 ≡ 0
 none_due None = refl
@@ -20,6 +22,15 @@ none_due (Some k) = refl
 pub none_summed : (F : Frame) (c : NodesT Where) → front_summed F None c ≡ None
 none_summed F (Do p c) = refl
 none_summed F _ = refl
+
+-- without a known word nothing is made of one
+pub none_made : (F : Frame) (c : NodesT Where) → made_with F None c ≡ None
+none_made F (Do (TwoO o t a b) c) = go (given_first c)
+  where
+    go : (p : Option Where) → made_known F p t None (operand o a b) ≡ None
+    go None = refl
+    go (Some p) = refl
+none_made F _ = refl
 
 both : {A : Type 0} (b : Bool) (x : A) → x ≡ cond b x x
 both true x = refl
@@ -44,9 +55,9 @@ module _ (W : Whole) (F : Frame) where
   led_count put c None = ahead_more (front_summed F put c)
   led_count put c (Some j) = Some j
 
-  record Fronts (first : NodesT Where) (put : Option (ℕ × ℕ)) (call : Bool) (c : NodesT Where) : Type 0 where
-    items : (k : ℕ) → front_items W F first k ≡ cond (k == 0) (led_front put first c (lead first)) []
-    more : (k : ℕ) → front_more W F first k ≡ cond (k == 0) (led_count put c (lead first)) (cond call None (Some (k - 1)))
+  record Fronts (first : NodesT Where) (made : Option (ℕ × Made)) (put : Option (ℕ × ℕ)) (call : Bool) (c : NodesT Where) : Type 0 where
+    items : (k : ℕ) → front_items W F first k ≡ cond (k == 0) (made_or F made (led_front put first c (lead first))) []
+    more : (k : ℕ) → front_more W F first k ≡ cond (k == 0) (more_ahead made (led_count put c (lead first))) (cond call None (Some (k - 1)))
 
   led_same : (o : OpT Where) (c : NodesT Where) (x : Option ℕ) → led_ahead W F o c x ≡ led_front (word_put W o) (Do o c) c x
   led_same o c None = ap ahead_items (summed o c)
@@ -56,20 +67,24 @@ module _ (W : Whole) (F : Frame) where
   count_same o c None = ap ahead_more (summed o c)
   count_same o c (Some j) = refl
 
-  plain_fronts : (o : OpT Where) (c : NodesT Where) → Fronts (Do o c) (word_put W o) false c
+  plain_fronts : (o : OpT Where) (c : NodesT Where) → Fronts (Do o c) (first_made (made_both o (given_first c)) (made_with F (word_put W o) c)) (word_put W o) false c
+  unfolding made_of
   plain_fronts o c = record {
-    items = λ k. ap (λ r. cond (k == 0) r []) (led_same o c (lead (Do o c)));
-    more = λ k. ap (λ r. cond (k == 0) r (Some (k - 1))) (count_same o c (lead (Do o c)));
+    items = λ k. ap (λ r. cond (k == 0) (made_or F (first_made (made_both o (given_first c)) (made_with F (word_put W o) c)) r) []) (led_same o c (lead (Do o c)));
+    more = λ k. ap (λ r. cond (k == 0) (more_ahead (first_made (made_both o (given_first c)) (made_with F (word_put W o) c)) r) (Some (k - 1))) (count_same o c (lead (Do o c)));
   }
 
-  call_fronts : {t : Option Where} {f : ℕ} {args : List Where} (c : NodesT Where) → Fronts (Call t f args c) None true c
+  call_fronts : {t : Option Where} {f : ℕ} {args : List Where} (c : NodesT Where) → Fronts (Call t f args c) (made_with F None c) None true c
   unfolding lead
-  call_fronts c = record {
-    items = λ k. both (k == 0) [] ∙ ap (λ r. cond (k == 0) (ahead_items r) []) (sym (none_summed F c));
-    more = λ k. both (k == 0) None ∙ ap (λ r. cond (k == 0) (ahead_more r) None) (sym (none_summed F c));
-  }
+  call_fronts c =
+      let m = sym (none_made F c) in
+      let r = sym (none_summed F c) in
+      record {
+        items = λ k. both (k == 0) [] ∙ (λ i. cond (k == 0) (made_or F (m i) (ahead_items (r i))) []);
+        more = λ k. both (k == 0) None ∙ (λ i. cond (k == 0) (more_ahead (m i) (ahead_more (r i))) None);
+      }
 
-  fronts : (o : Op Where) (c : NodesT Where) → Fronts (op_before o c) (front_put W (op_before o Stop)) (is_call o) c
+  fronts : (o : Op Where) (c : NodesT Where) → Fronts (op_before o c) (op_made W F o c) (front_put W (op_before o Stop)) (is_call o) c
   fronts (op.Const t word) c = plain_fronts (ConstO t word) c
   fronts (op.Null t) c = plain_fronts (NullO t) c
   fronts (op.Move t a) c = plain_fronts (MoveO t a) c
@@ -92,10 +107,10 @@ module _ (W : Whole) (F : Frame) where
   fronts op.Wait c = plain_fronts WaitO c
   fronts op.Halt c = plain_fronts HaltO c
 
-  pub items_of_front : (o : Op Where) (c : NodesT Where) (k : ℕ) → front_items W F (op_before o c) k ≡ cond (k == 0) (led_front (front_put W (op_before o Stop)) (op_before o c) c (lead (op_before o c))) []
+  pub items_of_front : (o : Op Where) (c : NodesT Where) (k : ℕ) → front_items W F (op_before o c) k ≡ cond (k == 0) (made_or F (op_made W F o c) (led_front (front_put W (op_before o Stop)) (op_before o c) c (lead (op_before o c)))) []
   items_of_front o c k = (fronts o c).items k
 
-  pub more_of_front : (o : Op Where) (c : NodesT Where) (k : ℕ) → front_more W F (op_before o c) k ≡ cond (k == 0) (led_count (front_put W (op_before o Stop)) c (lead (op_before o c))) (cond (is_call o) None (Some (k - 1)))
+  pub more_of_front : (o : Op Where) (c : NodesT Where) (k : ℕ) → front_more W F (op_before o c) k ≡ cond (k == 0) (more_ahead (op_made W F o c) (led_count (front_put W (op_before o Stop)) c (lead (op_before o c)))) (cond (is_call o) None (Some (k - 1)))
   more_of_front o c k = (fronts o c).more k
 
 -- ---- words that are put into registers, one after another

@@ -11,14 +11,15 @@ use Rattle.mid_code.specs.declared.node.Op.{Op}
 use Rattle.mid_code.specs.declared.node.Op.TheVariants as op
 use Rattle.mid_code.specs.Code.{OpT, ConstO, NullO, MoveO, OneO, TwoO, GlobalO, LocalO, LiteralO, CardO, StepO, ApartO, PtrTestO, LoadO, StoreO, FreshO, EndO, InO, OutO, WaitO, HaltO, NodesT, Do, Call, Leave}
 use Rattle.mid_code.specs.Functions.{op_before, NodeT, DoN, ChooseN, BlockN, LoopN, LeaveN, AgainN, ReturnN, ListT, NoN, MoreN, before, joined}
-use Rattle.asm_laws.specs.Operations.{Frame, Whole, op_items, in_one, one_or_more, more_of, call_items, hand, brings, led_items, led_more}
+use Rattle.asm_laws.specs.Operations.{Frame, Whole, op_items, in_one, one_or_more, more_of, call_items, hand, brings, led_items, led_more, group_items, group_more, giving, made_of, made_or, made_more}
+use Rattle.asm_laws.specs.declared.made.Made.{Made}
 use Rattle.asm_laws.specs.declared.behind.Behind.{Behind}
 use Rattle.asm_laws.specs.declared.behind.Behind.TheVariants.{Other, End, Turn}
-use Rattle.asm_laws.specs.inner.Emitted.{labels, enclosing, jump, alone, left_to, ends, is_stop, choice, enclosed, returning, items_past, code_items, inside, is_end, again, looped, is_round, is_tested, part_items, test_items, jump_when}
+use Rattle.asm_laws.specs.inner.Emitted.{labels, enclosing, jump, alone, left_to, ends, is_stop, choice, enclosed, left_by, items_past, code_items, inside, is_end, again, looped, is_round, is_tested, part_items, test_items, jump_when}
 use Rattle.asm_laws.specs.declared.copying.Copying.{Copying}
 use Rattle.asm_laws.specs.Copies.{ends_here, lead, copy_at, copy_or}
 use Rattle.asm_laws.proofs.Leads.{copy_turn, fill_turn, copy_is}
-use Rattle.asm_emit.specs.inner.Listed.{left_in, node_labels, list_labels, is_none, do_items, ahead_items, ahead_more, front_items, front_more, onward, node_items, list_past, list_items, is_call, round_in, tested_in, part_labels, own_test, list_test, list_part, led_ahead, led_behind, copied_own}
+use Rattle.asm_emit.specs.inner.Listed.{left_in, node_labels, list_labels, is_none, do_items, ahead_items, ahead_more, front_items, front_more, onward, node_items, list_past, list_items, is_call, round_in, tested_in, part_labels, own_test, list_test, list_part, led_ahead, led_behind, more_ahead, copied_own}
 
 -- an operation before nodes is a node of its own, or a call
 op_parts : (Q : NodesT Where → NodesT Where → Type 0) → ((o : OpT Where) (c : NodesT Where) → Q c (Do o c)) → ((t : Option Where) (f : ℕ) (args : List Where) (c : NodesT Where) → Q c (Call t f args c)) → (o : Op Where) (c : NodesT Where) → Q c (op_before o c)
@@ -190,7 +191,7 @@ mutual
 not_zero : (k : ℕ) → (suc k == 0) ≡ false
 not_zero k = grind (arith, nat_tests)
 
-module _ (W : Whole) (F : Frame) (out : ℕ) where
+module _ (W : Whole) (F : Frame) (out : Option ℕ) where
   abbrev items : (last : Behind) → List ℕ → ℕ → NodesT Where → (done : ℕ) → List AsmItem
   items = items_past W F out
 
@@ -206,15 +207,19 @@ module _ (W : Whole) (F : Frame) (out : ℕ) where
   done_are o (Some (more, first, i)) last ls n c = refl
 
   plain_are : (o : OpT Where) (last : Behind) (ls : List ℕ) (n : ℕ) (c : NodesT Where) (k : ℕ) → items last ls n (Do o c) k ≡ On last (Do o c) k (op_items W F o) ls n 0 c
-  plain_are o last ls n c zero = led_are (lead (Do o c))
+  plain_are o last ls n c zero = made_are (made_of W F o c)
     where
       led_are : (x : Option ℕ) → led_items W F o c x ++ items last ls n c (led_more W F o c x) ≡ led_ahead W F o c x ++ onward (led_behind W F o c x) (op_items W F o) (items last ls n c) (items last ls (n + 0) c 0)
       led_are None = done_are o (in_one W F o c) last ls n c
       led_are (Some j) = refl
+
+      made_are : (x : Option (ℕ × Made)) → made_or F x (group_items W F o c) ++ items last ls n c (made_more x (group_more W F o c)) ≡ made_or F x (led_ahead W F o c (lead (Do o c))) ++ onward (more_ahead x (led_behind W F o c (lead (Do o c)))) (op_items W F o) (items last ls n c) (items last ls (n + 0) c 0)
+      made_are None = led_are (lead (Do o c))
+      made_are (Some (k, y)) = refl
   plain_are o last ls n c (suc k) =
       let e : k ≡ suc k - 1 = omega arith in
       let b = not_zero k in
-      ap (items last ls n c) e ∙ (λ i. cond (sym b i) (led_ahead W F o c (lead (Do o c))) [] ++ onward (cond (sym b i) (led_behind W F o c (lead (Do o c))) (Some (suc k - 1))) (op_items W F o) (items last ls n c) (items last ls (n + 0) c 0))
+      ap (items last ls n c) e ∙ (λ i. cond (sym b i) (made_or F (made_of W F o c) (led_ahead W F o c (lead (Do o c)))) [] ++ onward (cond (sym b i) (more_ahead (made_of W F o c) (led_behind W F o c (lead (Do o c)))) (Some (suc k - 1))) (op_items W F o) (items last ls n c) (items last ls (n + 0) c 0))
 
   op_are : (o : Op Where) (last : Behind) (ls : List ℕ) (n : ℕ) (c : NodesT Where) (k : ℕ) → items last ls n (op_before o c) k ≡ On last (op_before o c) k (do_items W F o) ls n 0 c
   op_are (op.Const t word) last ls n c k = plain_are (ConstO t word) last ls n c k
@@ -251,15 +256,19 @@ module _ (W : Whole) (F : Frame) (out : ℕ) where
   Tests first k own to c = front_items W F first k ++ onward (front_more W F first k) own (tests to c) (tests to c 0)
 
   plain_test : (o : OpT Where) (to : ℕ) (c : NodesT Where) (k : ℕ) → tests to (Do o c) k ≡ Tests (Do o c) k (op_items W F o) to c
-  plain_test o to c zero = led_test (lead (Do o c))
+  plain_test o to c zero = made_test (made_of W F o c)
     where
       led_test : (x : Option ℕ) → led_items W F o c x ++ tests to c (led_more W F o c x) ≡ led_ahead W F o c x ++ onward (led_behind W F o c x) (op_items W F o) (tests to c) (tests to c 0)
       led_test None = done_test o (in_one W F o c) to c
       led_test (Some j) = refl
+
+      made_test : (x : Option (ℕ × Made)) → made_or F x (group_items W F o c) ++ tests to c (made_more x (group_more W F o c)) ≡ made_or F x (led_ahead W F o c (lead (Do o c))) ++ onward (more_ahead x (led_behind W F o c (lead (Do o c)))) (op_items W F o) (tests to c) (tests to c 0)
+      made_test None = led_test (lead (Do o c))
+      made_test (Some (k, y)) = refl
   plain_test o to c (suc k) =
       let e : k ≡ suc k - 1 = omega arith in
       let b = not_zero k in
-      ap (tests to c) e ∙ (λ i. cond (sym b i) (led_ahead W F o c (lead (Do o c))) [] ++ onward (cond (sym b i) (led_behind W F o c (lead (Do o c))) (Some (suc k - 1))) (op_items W F o) (tests to c) (tests to c 0))
+      ap (tests to c) e ∙ (λ i. cond (sym b i) (made_or F (made_of W F o c) (led_ahead W F o c (lead (Do o c)))) [] ++ onward (cond (sym b i) (more_ahead (made_of W F o c) (led_behind W F o c (lead (Do o c)))) (Some (suc k - 1))) (op_items W F o) (tests to c) (tests to c 0))
 
   test_op : (o : Op Where) (to : ℕ) (c : NodesT Where) (k : ℕ) → tests to (op_before o c) k ≡ Tests (op_before o c) k (do_items W F o) to c
   test_op (op.Const t word) to c k = plain_test (ConstO t word) to c k
@@ -291,7 +300,8 @@ module _ (W : Whole) (F : Frame) (out : ℕ) where
   node_test (LoopN b) to c k = refl
   node_test (LeaveN j) to c k = refl
   node_test (AgainN j) to c k = refl
-  node_test (ReturnN p) to c k = refl
+  node_test (ReturnN p) to c zero = refl
+  node_test (ReturnN p) to c (suc k) = let b = not_zero k in λ i. cond (sym b i) (giving F p) [] ++ tests to c 0
 
   test_are : (to : ℕ) (xs : ListT Where) (k : ℕ) → tests to (joined xs) k ≡ list_test W F to xs k
   test_are to NoN k = refl
@@ -329,7 +339,10 @@ module _ (W : Whole) (F : Frame) (out : ℕ) where
         λ i. copy_or (copy_at k (joined b)) (looped (te i) n (all i) (part i) (test i)) ++ items last ls (n + (2 + lb i)) c 0
     node_are (LeaveN j) last ls n c k = ap (λ xs. jump (add (enclosing ls j) 1) ∷ xs) (nothing last ls n c)
     node_are (AgainN j) last ls n c k = ap (λ xs. again ls j (ends last c) ++ xs) (nothing last ls n c)
-    node_are (ReturnN p) last ls n c k = ap (λ xs. returning F p out (is_end (ends last c)) ++ xs) (nothing last ls n c)
+    node_are (ReturnN p) last ls n c zero = ap (λ xs. giving F p ++ (left_by F out (is_end (ends last c)) ++ xs)) (nothing last ls n c)
+    node_are (ReturnN p) last ls n c (suc k) =
+        let b = not_zero k in
+        ap (λ xs. left_by F out (is_end (ends last c)) ++ xs) (nothing last ls n c) ∙ (λ i. cond (sym b i) (giving F p) [] ++ (left_by F out (is_end (ends last c)) ++ items last ls (n + 0) c 0))
 
     past_are : (xs : ListT Where) (last : Behind) (ls : List ℕ) (n k : ℕ) → items last ls n (joined xs) k ≡ list_past W F out last ls n xs k
     past_are NoN last ls n k = refl

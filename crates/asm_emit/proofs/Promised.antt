@@ -1,5 +1,5 @@
 -- What is promised of the items of placed code.
-use Rattle.std.proofs.Common.{◌≡◌, ℕ, zero, suc, ◌+◌, ◌-◌, ◌^◌, ◌<◌, List, [], ◌∷◌, ◌++◌, length, map, Some, refl, sym, ap, ◌∙◌, subst, arith, append_assoc}
+use Rattle.std.proofs.Common.{◌≡◌, ℕ, zero, suc, ◌+◌, ◌-◌, ◌^◌, ◌<◌, List, [], ◌∷◌, ◌++◌, length, map, Some, None, refl, sym, ap, ◌∙◌, subst, arith, append_assoc}
 use Rattle.std.specs.Prelude.{◌==◌, cond, Bool, true, false, get_or, slice_get, sum}
 use Rattle.std.proofs.lemmas.List.Sums.{sum_by-cons}
 use Rattle.std.proofs.lemmas.Option.{get_or_from_slice_get, slice_get-get_or}
@@ -76,7 +76,7 @@ module _ (x : CodeT Where) (W : Whole) (count : length W.names ≡ length x.func
   are_items : (f n : ℕ) (g : FunctionT Where) → AreNodes x (length g.locals) [] g.body → n + 1 + labels g.body < 2 ^ 32 - 1 → AreItemsOf W.names g (own_items W f n g.body)
   are_items f n g ok few =
       let F = W.frames f in
-      let items = code_items W F n [] (n + 1) g.body in
+      let items = code_items W F None [] (n + 1) g.body in
       let gone = gone_ends F.size in
       let away = mark n ∷ gone.0 in
       record {

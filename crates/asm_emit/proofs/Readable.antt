@@ -24,15 +24,15 @@ use Rattle.mid_code.specs.declared.placed.Where.TheVariants.{Reg, Slot}
 use Rattle.mid_code.specs.Code.{OpT, ConstO, NullO, MoveO, OneO, TwoO, GlobalO, LocalO, LiteralO, CardO, StepO, ApartO, PtrTestO, LoadO, StoreO, FreshO, EndO, InO, OutO, WaitO, HaltO, NodesT, Stop, Do, Call, Choose, Block, Loop, Leave, Again, Return, FunctionT, CodeT}
 use Rattle.mid_code.specs.Invariants.{AllOf, IsOp, AreNodes}
 use Rattle.asm_laws.specs.Moves.{Move, in_order}
-use Rattle.asm_laws.specs.Operations.{Frame, Whole, keep, fetches, keeps, keeps_some, hand, brings, takes, aim, lays, moves, changes, is_direct, in_place, apart, is_turned, turned_or_apart, computes, slot_arg, slot_args, moved_items, args_items, call_items, op_items, in_one, one_or_more, more_of, giving, start_frame, literal_items, literals_items, word_put, put_item, puts_items, group_items, group_more}
+use Rattle.asm_laws.specs.Operations.{Frame, Whole, keep, fetches, keeps, keeps_some, hand, brings, takes, aim, lays, moves, changes, is_direct, in_place, apart, is_turned, turned_or_apart, computes, slot_arg, slot_args, moved_items, args_items, call_items, op_items, in_one, one_or_more, more_of, giving, start_frame, literal_items, literals_items, word_put, put_item, puts_items, group_items, giving_left, next_items, next_more}
 use Rattle.asm_laws.specs.Pieces.{register, is_in, turned}
 use Rattle.asm_laws.specs.Framing.{frame_made, frame_gone}
 use Rattle.asm_laws.specs.declared.behind.Behind.{Behind}
 use Rattle.asm_laws.specs.declared.behind.Behind.TheVariants.{Other, End, Turn}
-use Rattle.asm_laws.specs.inner.Emitted.{labels, enclosing, jump, jump_unless, mark, first_part, second_part, choice, alone, left_to, ends, jump_when, is_stop, enclosed, returning, items_past, code_items, exit_items, function_items, functions_items, closing_items, start_items, program_items, inside, is_end, is_turn, again, rotated, looped, is_tested, part_items, test_items}
+use Rattle.asm_laws.specs.inner.Emitted.{labels, enclosing, jump, jump_unless, mark, first_part, second_part, choice, alone, left_to, ends, jump_when, is_stop, enclosed, leaving, left_by, items_past, code_items, exit_items, function_items, functions_items, closing_items, start_items, program_items, inside, is_end, is_turn, again, rotated, looped, is_tested, part_items, test_items}
 use Rattle.asm_laws.specs.declared.copying.Copying.{Copying}
 use Rattle.asm_laws.specs.Copies.{copy_at, copy_or, items_from}
-use Rattle.asm_laws.proofs.InOne.{TakesWord, one_or_more_is, group_is}
+use Rattle.asm_laws.proofs.InOne.{TakesWord, one_or_more_is, group_is, next_is}
 use Rattle.asm_emit.specs.inner.Words.{AreWords, TextsAreWords}
 use Rattle.asm_emit.proofs.ReadableLabels.{jump_named, literal_named, function_named}
 
@@ -165,6 +165,10 @@ giving_fine : (F : Frame) (p : Option Where) → AllFine (giving F p)
 giving_fine F None = tt
 giving_fine F (Some p) = (fetch_fine F p 9 (omega arith), tt)
 
+left_fine : (F : Frame) (p : Option Where) (done : ℕ) → AllFine (giving_left F p done)
+left_fine F p zero = giving_fine F p
+left_fine F p (suc k) = tt
+
 made_fine : (size : ℕ) → size < 2 ^ 32 → AllFine (frame_made size)
 made_fine size lt =
     either (size == 0) [] (item.Op (instr.Two ISUB 15 (src.Imm (Left size))) ∷ []) tt
@@ -237,6 +241,12 @@ module _ (x : CodeT Where) (W : Whole) (words : list_all is_word W.names ≡ tru
     group_fine : (o : OpT Where) (c : NodesT Where) (bs : List Bool) → AreNodes x m bs (Do o c) → AllFine (group_items W F o c)
     group_fine o c bs ok = group_is W F AllFine o c (one_or_more_fine o c ok.0) (λ k e. puts_fine (Do o c) k bs ok)
 
+    next_fine : (o : OpT Where) (c : NodesT Where) (bs : List Bool) → AreNodes x m bs (Do o c) → AllFine (next_items W F o c)
+    next_fine o c bs ok =
+        next_is W F AllFine (λ v. v < 2 ^ 32) o c (λ t n e. (subst (IsOp x m) e ok.0, in_words 0 n, λ m. sum_in_words n m)) (λ t k e. (addresses k, in_words 0 (get_or W.globals k 0), λ m. sum_in_words (get_or W.globals k 0) m)) taking_fine
+        (λ p r i lt h. (fetch_fine F p r lt, taking_fine i h), λ r q i lr lq h. ((lr, (lq, tt)), taking_fine i h))
+        (λ u t a b e. (fetch_fine F a 9 (omega arith), join (brings F b 10) (item.Op (instr.Two u 9 (src.Reg (hand b 10))) ∷ []) (brings_fine F b 10 (omega arith)) ((omega arith, (hand_fine b 10 (omega arith), tt)), tt))) (group_fine o c bs ok)
+
     copy_fine : (f : Option ℕ) (y : Copying) → AllFine (items_from f y)
     copy_fine None y =
         let to = in_registers y.to in
@@ -280,10 +290,10 @@ module _ (x : CodeT Where) (W : Whole) (words : list_all is_word W.names ≡ tru
     rotated_fine : (n : ℕ) (part test : List AsmItem) → AllFine part → AllFine test → AllFine (rotated n part test)
     rotated_fine n part test hp ht = ((jump_named n, tt), (jump_named (n + 2), join part (mark n ∷ (test ++ mark (n + 1) ∷ [])) hp (jump_named n, join test (mark (n + 1) ∷ []) ht (jump_named (n + 1), tt))))
 
-    module _ (out : ℕ) where
+    module _ (out : Option ℕ) (leaves : AllFine (leaving F out)) where
       test_fine : (to : ℕ) (c : NodesT Where) (done : ℕ) (bs : List Bool) → AreNodes x m bs c → AllFine (test_items W F out to c done)
       test_fine to Stop done bs ok = tt
-      test_fine to (Do o c) zero bs ok = join (group_items W F o c) _ (group_fine o c bs ok) (test_fine to c (group_more W F o c) bs ok.1)
+      test_fine to (Do o c) zero bs ok = join (next_items W F o c) _ (next_fine o c bs ok) (test_fine to c (next_more W F o c) bs ok.1)
       test_fine to (Do o c) (suc done) bs ok = test_fine to c done bs ok.1
       test_fine to (Call t g args c) done bs ok = join (call_items W F t g args) _ (call_fine t g args) (test_fine to c 0 bs ok.1)
       test_fine to (Choose p a b c) done bs ok = join (brings F p 9) (jump_when (hand p 9) to ∷ test_items W F out to c 0) (brings_fine F p 9 (omega arith)) ((hand_fine p 9 (omega arith), (jump_named to, tt)), test_fine to c 0 bs ok.2)
@@ -291,12 +301,12 @@ module _ (x : CodeT Where) (W : Whole) (words : list_all is_word W.names ≡ tru
       test_fine to (Loop b c) done bs ok = test_fine to c 0 bs ok.1
       test_fine to (Leave k c) done bs ok = test_fine to c 0 bs ok.1
       test_fine to (Again k c) done bs ok = test_fine to c 0 bs ok.1
-      test_fine to (Return p c) done bs ok = test_fine to c 0 bs ok
+      test_fine to (Return p c) done bs ok = join (giving_left F p done) (test_items W F out to c 0) (left_fine F p done) (test_fine to c 0 bs ok)
 
       mutual
         past_fine : (c : NodesT Where) (done : ℕ) (last : Behind) (bs : List Bool) (ls : List ℕ) (n : ℕ) → AreNodes x m bs c → AllFine (items_past W F out last ls n c done)
         past_fine Stop done last bs ls n ok = tt
-        past_fine (Do o c) zero last bs ls n ok = join (group_items W F o c) _ (group_fine o c bs ok) (past_fine c (group_more W F o c) last bs ls n ok.1)
+        past_fine (Do o c) zero last bs ls n ok = join (next_items W F o c) _ (next_fine o c bs ok) (past_fine c (next_more W F o c) last bs ls n ok.1)
         past_fine (Do o c) (suc done) last bs ls n ok = past_fine c done last bs ls n ok.1
         past_fine (Call t g args c) done last bs ls n ok = join (call_items W F t g args) _ (call_fine t g args) (past_fine c 0 last bs ls n ok.1)
         past_fine (Choose p a b c) done last bs ls n ok =
@@ -313,7 +323,10 @@ module _ (x : CodeT Where) (W : Whole) (words : list_all is_word W.names ≡ tru
             (past_fine c 0 last bs ls (n + (2 + labels b)) ok.1)
         past_fine (Leave k c) done last bs ls n ok = ((jump_named (add (enclosing ls k) 1), tt), past_fine c 0 last bs ls n ok.1)
         past_fine (Again k c) done last bs ls n ok = join (again ls k (ends last c)) _ (either ((k == 0) && is_turn (ends last c)) [] (jump (enclosing ls k) ∷ []) tt ((jump_named (enclosing ls k), tt), tt)) (past_fine c 0 last bs ls n ok.1)
-        past_fine (Return p c) done last bs ls n ok = join (returning F p out (is_end (ends last c))) _ (join (giving F p) (cond (is_end (ends last c)) [] (jump out ∷ [])) (giving_fine F p) (either (is_end (ends last c)) [] (jump out ∷ []) tt ((jump_named out, tt), tt))) (past_fine c 0 last bs ls n ok)
+        past_fine (Return p c) done last bs ls n ok =
+            let left = left_by F out (is_end (ends last c)) in
+            let rest = items_past W F out last ls n c 0 in
+            join (giving_left F p done) (left ++ rest) (left_fine F p done) (join left rest (either (is_end (ends last c)) [] (leaving F out) tt leaves) (past_fine c 0 last bs ls n ok))
 
         part_fine : (c : NodesT Where) (bs : List Bool) (ls : List ℕ) (n : ℕ) → AreNodes x m bs c → AllFine (part_items W F out ls n c)
         part_fine Stop bs ls n ok = tt
@@ -332,9 +345,9 @@ module _ (x : CodeT Where) (W : Whole) (words : list_all is_word W.names ≡ tru
   function_fine : (f n : ℕ) (g : FunctionT Where) → (W.frames f).size < 2 ^ 32 → AreNodes x (length g.locals) [] g.body → AllFine (function_items W f n g.body)
   function_fine f n g small ok =
       let F = W.frames f in
-      let items = code_items W F n [] (n + 1) g.body in (
+      let items = code_items W F None [] (n + 1) g.body in (
         function_named W.names f words,
-        join (frame_made F.size) (items ++ exit_items n F) (made_fine F.size small) (join items (exit_items n F) (code_fine (length g.locals) F n g.body [] [] (n + 1) ok) (jump_named n, gone_fine F.size small)),
+        join (frame_made F.size) (items ++ exit_items n F) (made_fine F.size small) (join items (exit_items n F) (code_fine (length g.locals) F None (gone_fine F.size small) g.body [] [] (n + 1) ok) (jump_named n, gone_fine F.size small)),
       )
 
   functions_fine : (f n : ℕ) (gs : List (FunctionT Where)) → ((k : ℕ) → (W.frames k).size < 2 ^ 32) → AllOf (λ g. AreNodes x (length g.locals) [] g.body) gs → AllFine (functions_items W f n gs)
@@ -352,8 +365,8 @@ module _ (x : CodeT Where) (W : Whole) (words : list_all is_word W.names ≡ tru
   -- all items of a program
   pub program_readable : ((k : ℕ) → (W.frames k).size < 2 ^ 32) → AreNodes x (length x.start.locals) [] x.start.body → AllOf (λ g. AreNodes x (length g.locals) [] g.body) x.functions → TextsAreWords x.literals → AreReadable (program_items W x)
   program_readable small start each texts =
-      let body = code_items W start_frame 0 [] 1 x.start.body in
+      let body = code_items W start_frame (Some 0) [] 1 x.start.body in
       all_read (program_items W x)
       (join (start_items W x.main x.start.body) _
-      (join body (closing_items W x.main) (code_fine (length x.start.locals) start_frame 0 x.start.body [] [] 1 start) (jump_named 0, ((function_named W.names x.main words, tt), (tt, tt))))
+      (join body (closing_items W x.main) (code_fine (length x.start.locals) start_frame (Some 0) ((jump_named 0, tt), tt) x.start.body [] [] 1 start) (jump_named 0, ((function_named W.names x.main words, tt), (tt, tt))))
       (join (functions_items W 0 (1 + labels x.start.body) x.functions) (literals_items 0 x.literals) (functions_fine 0 (1 + labels x.start.body) x.functions small each) (literals_fine 0 x.literals texts)))

@@ -15,6 +15,7 @@ ghost use Rattle.asm_emit.specs.inner.View.{frame, whole};
 use crate::copies::lead;
 use crate::hands::{fetch, hand, is_in, op, register};
 use crate::pieces::{port, turned};
+use crate::results::{made_of, put_giving, put_made};
 use crate::scope::{Around, Scope, at_or};
 use crate::spare::used_by_op;
 use asm_items::{AsmItem, Imm};
@@ -285,7 +286,7 @@ fn known(
 }
 
 /// The instruction that uses a known word, behind one where there is one.
-fn using_it(s: &Scope<'_>, word: u32, u: &Used) -> (Option<Instr<Imm>>, Instr<Imm>)
+pub(crate) fn using_it(s: &Scope<'_>, word: u32, u: &Used) -> (Option<Instr<Imm>>, Instr<Imm>)
     ensures { result ≡ using_it (frame s.now) word u.now }
 {
     let w = Either::Left(word);
@@ -340,7 +341,7 @@ fn with_op(
 }
 
 /// The register into which an operation puts a word that is known, and the word.
-fn word_put(w: &Around<'_>, o: &Op<Where>) -> Option<(Reg, u32)>
+pub(crate) fn word_put(w: &Around<'_>, o: &Op<Where>) -> Option<(Reg, u32)>
     ensures { result ≡ front_put (whole w.now) (op_before o.now Stop) }
 {
     match o {
@@ -374,7 +375,7 @@ pub(crate) fn is_call(o: &Op<Where>) -> bool
 }
 
 /// Adds an instruction, where there is one.
-fn put_before(out: &mut Vec<AsmItem>, first: Option<Instr<Imm>>) -> Result<(), Memory>
+pub(crate) fn put_before(out: &mut Vec<AsmItem>, first: Option<Instr<Imm>>) -> Result<(), Memory>
     ensures { OnOk result (out.new.items ≡ out.old.items ++ before_it first) }
 {
     match first {
@@ -490,12 +491,18 @@ fn put_op_ahead(
     ensures labels { IfOk result (λ k. labels_due k 0 ≡ 0) }
 {
     if done == 0 {
-        match lead(o, rest) {
-            Some(count) => {
-                put_led(out, w, o, rest, count)?;
-                Ok(Some(count))
+        match made_of(w, s, o, rest) {
+            Some((more, y)) => {
+                put_made(out, s, y)?;
+                Ok(Some(more))
             }
-            None => put_in_one(out, w, s, o, rest),
+            None => match lead(o, rest) {
+                Some(count) => {
+                    put_led(out, w, o, rest, count)?;
+                    Ok(Some(count))
+                }
+                None => put_in_one(out, w, s, o, rest),
+            },
         }
     } else {
         Ok(if is_call(o) { None } else { Some(done - 1) })
@@ -517,6 +524,10 @@ pub(crate) fn put_ahead(
 {
     match x {
         Node::Do(o) => put_op_ahead(out, w, s, o, rest, done),
+        Node::Return(p) => {
+            put_giving(out, s, *p, done)?;
+            Ok(None)
+        }
         _ => Ok(None),
     }
 }

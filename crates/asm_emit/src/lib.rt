@@ -8,6 +8,7 @@
 mod ahead;
 mod calls;
 mod copies;
+mod framing;
 mod hands;
 mod moving;
 mod names;
@@ -15,6 +16,7 @@ mod nodes;
 mod operations;
 mod pieces;
 mod program;
+mod results;
 mod scope;
 mod spare;
 mod words;

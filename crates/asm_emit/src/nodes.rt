@@ -2,10 +2,10 @@
 ghost use Rattle.std.specs.Prelude.{◌≡◌, ◌+◌, ◌-◌, ◌<◌, ◌^◌, ◌++◌, ◌∷◌, [], true, map, suc, length, get_or, OnOk, IfOk};
 ghost use Rattle.kit_base.specs.Word.{add};
 ghost use Rattle.mid_code.specs.Functions.{node, nodes, listed, BlockN, LoopN};
-ghost use Rattle.asm_laws.specs.Operations.{giving, hand, brings};
+ghost use Rattle.asm_laws.specs.Operations.{hand, brings};
 ghost use Rattle.asm_laws.specs.declared.behind.Behind.TheVariants.{Other, End, Turn};
 ghost use Rattle.asm_laws.specs.inner.Emitted.{labels, enclosing, jump, jump_unless, jump_when, mark, first_part, second_part, one_way, alone};
-ghost use Rattle.asm_laws.specs.inner.Emitted.{returning, code_items, inside, is_end, is_turn, again, rotated};
+ghost use Rattle.asm_laws.specs.inner.Emitted.{leaving, left_by, code_items, inside, is_end, is_turn, again, rotated};
 ghost use Rattle.asm_emit.specs.inner.Listed.{left_in, ends_in, node_labels, list_labels, node_items, list_past};
 ghost use Rattle.asm_emit.specs.inner.Listed.{is_none, is_again, round_in, tested_in, is_operation, turn_labels, part_labels};
 ghost use Rattle.asm_emit.specs.inner.Listed.{copied_own, own_test, list_test, list_part, turn_items};
@@ -13,7 +13,8 @@ ghost use Rattle.asm_emit.specs.inner.View.{frame, whole};
 
 use crate::ahead::{behind, is_call, put_ahead};
 use crate::copies::{copy_at, put_copy};
-use crate::hands::{brings, fetches, hand, op};
+use crate::framing::put_frame_gone;
+use crate::hands::{brings, hand, op};
 use crate::names::jump_label;
 use crate::operations::put_op;
 use crate::scope::{Around, Scope};
@@ -25,13 +26,14 @@ use mid_code::{Node, Where};
 use std::alloc::Global;
 use v32_isa::{Branch, Go, Instr, Reg, Src};
 
-/// A function whose nodes are added: the program around it, its frame, and the number of the label at its end.
+/// A function whose nodes are added: the program around it, its frame, and the label to which a result in its middle jumps, where it does not go back to a
+/// caller.
 #[derive(Drop)]
 struct Within<'a> {
     alloc: Global,
     around: Around<'a>,
     scope: Scope<'a>,
-    end: u32,
+    end: Option<u32>,
 }
 
 /// Adds a jump to a label.
@@ -184,16 +186,6 @@ fn is_tested(xs: &[Node<Where>]) -> bool
         }
     }
     false
-}
-
-/// Puts the word that a function gives back into register 9.
-fn put_giving(out: &mut Vec<AsmItem>, s: &Scope<'_>, p: Option<Where>) -> Result<(), Memory>
-    ensures { OnOk result (out.new.items ≡ out.old.items ++ giving (frame s.now) p) }
-{
-    match p {
-        Some(p) => fetches(out, s, p, 9),
-        None => Ok(()),
-    }
 }
 
 /// Goes into a block or loop whose labels begin at n.
@@ -509,22 +501,35 @@ fn put_again(
     }
 }
 
-/// Adds a jump behind the word that is given back.
+/// Adds what leaves a function: its frame is taken away, and it goes back; where there is a label, a jump to that.
+fn put_leaving(
+    alloc: Global,
+    out: &mut Vec<AsmItem>,
+    s: &Scope<'_>,
+    end: Option<u32>,
+) -> Result<(), Memory>
+    ensures { OnOk result (out.new.items ≡ out.old.items ++ leaving (frame s.now) end) }
+{
+    match end {
+        Some(n) => put_jump(alloc, out, n),
+        None => put_frame_gone(out, s.size),
+    }
+}
+
+/// Leaves the function behind a result, where its end does not come next.
 fn put_return(
     alloc: Global,
     out: &mut Vec<AsmItem>,
     s: &Scope<'_>,
-    end: u32,
+    end: Option<u32>,
     last: Behind,
-    p: Option<Where>,
 ) -> Result<(), Memory>
-    ensures { OnOk result (out.new.items ≡ out.old.items ++ returning (frame s.now) p end (is_end last)) }
+    ensures { OnOk result (out.new.items ≡ out.old.items ++ left_by (frame s.now) end (is_end last)) }
 {
-    put_giving(out, s, p)?;
     match last {
         Behind::End => Ok(()),
-        Behind::Other => put_jump(alloc, out, end),
-        Behind::Turn => put_jump(alloc, out, end),
+        Behind::Other => put_leaving(alloc, out, s, end),
+        Behind::Turn => put_leaving(alloc, out, s, end),
     }
 }
 
@@ -567,8 +572,8 @@ fn put_node(
             put_again(w.alloc, out, ls, *k, last)?;
             Ok(n)
         }
-        Node::Return(p) => {
-            put_return(w.alloc, out, &w.scope, w.end, last, *p)?;
+        Node::Return(_) => {
+            put_return(w.alloc, out, &w.scope, w.end, last)?;
             Ok(n)
         }
     }
@@ -644,7 +649,7 @@ pub(crate) fn put_body(
     out: &mut Vec<AsmItem>,
     w: &Around<'_>,
     s: &Scope<'_>,
-    end: u32,
+    end: Option<u32>,
     n: u32,
     body: &[Node<Where>],
 ) -> Result<u32, Memory>

@@ -5,13 +5,13 @@ ghost use Rattle.mid_code.specs.Functions.{nodes, function};
 ghost use Rattle.mid_code.specs.View.{code, spots};
 ghost use Rattle.mid_code.specs.Whole.{placed};
 ghost use Rattle.asm_laws.specs.Operations.{literal_items, literals_items};
-ghost use Rattle.asm_laws.specs.Framing.{frame_made, frame_gone};
 ghost use Rattle.asm_laws.specs.inner.Emitted.{labels, labels_of, functions_labels, entry_items, exit_items, function_items, functions_items};
 ghost use Rattle.asm_laws.specs.inner.Emitted.{start_items, closing_items, program_items};
 ghost use Rattle.asm_emit.specs.EmittedFrom.{CanBeEmitted, IsEmitted};
 ghost use Rattle.asm_emit.specs.inner.Spared.{held_all};
 ghost use Rattle.asm_emit.specs.inner.View.{frame, whole, whole_of_parts, wrapped_addresses};
 
+use crate::framing::{put_frame_gone, put_frame_made};
 use crate::hands::op;
 use crate::names::{function_label, literal_label};
 use crate::nodes::{put_body, put_mark};
@@ -24,36 +24,7 @@ use kit_base::{Memory, Name};
 use mid_code::laws::placed_code_is_sound;
 use mid_code::{Code, Function, Node, Placed, Spots, Where};
 use std::alloc::Global;
-use v32_isa::{Go, Instr, Plain, Reg, Src, Two};
-
-/// Adds what makes a frame of `size` words, where it has any.
-fn put_frame_made(out: &mut Vec<AsmItem>, size: u32) -> Result<(), Memory>
-    ensures { OnOk result (out.new.items ≡ out.old.items ++ frame_made size) }
-{
-    if size == 0 {
-        Ok(())
-    } else {
-        op(
-            out,
-            Instr::Two(Two::ISUB, Reg::at(15), Src::Imm(Either::Left(size))),
-        )
-    }
-}
-
-/// Adds what takes away a frame of `size` words, where it has any, and goes back.
-fn put_frame_gone(out: &mut Vec<AsmItem>, size: u32) -> Result<(), Memory>
-    ensures { OnOk result (out.new.items ≡ out.old.items ++ frame_gone size) }
-{
-    if size == 0 {
-        op(out, Instr::Plain(Plain::RET))
-    } else {
-        op(
-            out,
-            Instr::Two(Two::IADD, Reg::at(15), Src::Imm(Either::Left(size))),
-        )?;
-        op(out, Instr::Plain(Plain::RET))
-    }
-}
+use v32_isa::{Go, Instr, Plain, Src};
 
 /// Adds the label of a function and what makes its frame.
 fn put_entry(
@@ -93,7 +64,7 @@ fn put_function(
 {
     let s = scope_at(w, f);
     put_entry(alloc, out, w, f, &s)?;
-    let next = put_body(alloc, out, w, &s, n, n + 1, body)?;
+    let next = put_body(alloc, out, w, &s, None, n + 1, body)?;
     put_exit(alloc, out, n, &s)?;
     Ok(next)
 }
@@ -155,7 +126,7 @@ fn put_start(
         depth: 0,
         registers: 9,
     };
-    let next = put_body(alloc, out, w, &s, 0, 1, body)?;
+    let next = put_body(alloc, out, w, &s, Some(0), 1, body)?;
     put_closing(alloc, out, w, main)?;
     Ok(next)
 }

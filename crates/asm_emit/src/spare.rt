@@ -39,7 +39,7 @@ fn beside(p: Where, q: Where) -> Option<Where>
 }
 
 /// And the operator that works on the other's word and the known one.
-fn operand(o: Two, p: Where, q: Where) -> Option<(Two, Where)>
+pub(crate) fn operand(o: Two, p: Where, q: Where) -> Option<(Two, Where)>
     ensures { result ≡ operand o p q }
 {
     if is_spare(p) {

@@ -1,5 +1,5 @@
 -- The words of a program do what its placed code means.
-use Rattle.std.proofs.Common.{◌≡◌, ◌≢◌, ℕ, zero, suc, ◌+◌, ◌-◌, ◌*◌, ◌<◌, ◌≤◌, true, false, List, [], ◌∷◌, ◌++◌, length, Option, Some, None, refl, sym, ap, ◌∙◌, subst, arith, append-nil}
+use Rattle.std.proofs.Common.{◌≡◌, ◌≢◌, ℕ, zero, suc, ◌+◌, ◌-◌, ◌*◌, ◌<◌, ◌≤◌, inl, inr, Bool, true, false, List, [], ◌∷◌, ◌++◌, length, Option, Some, None, refl, sym, ap, ◌∙◌, subst, arith, append-nil}
 use Rattle.std.specs.Prelude.{get_or, slice_get, slice_index, nat_lt}
 use Rattle.std.proofs.lemmas.Option.{slice_get_within, get_or_from_slice_get}
 use Rattle.std.proofs.lemmas.Bool.Decides.{nat_tests}
@@ -22,7 +22,7 @@ use Rattle.obj_mem.specs.Runs.{Ending, Halted, Fault, Starved, Stray, Deep, OutO
 use Rattle.mid_code.specs.declared.placed.Where.{Where}
 use Rattle.mid_code.specs.Meaning.{Did, On, Ends, Res, Next, Leaves, Repeats, Returns, Over, call_done, did, called}
 use Rattle.mid_code.specs.Meaning as meaning
-use Rattle.mid_code.specs.States.{State, spent, registers_and_slots}
+use Rattle.mid_code.specs.States.{State, spent, registers_and_slots, function_at, begun, if_room}
 use Rattle.mid_code.specs.Runs.{Final, final, opening, start_done, main_done, main_called, final_of, run_of}
 use Rattle.mid_code.specs.Keeps.{global_cell}
 use Rattle.mid_code.specs.Agrees.{KeepsWords, Matches}
@@ -31,8 +31,9 @@ use Rattle.asm_laws.specs.inner.Following as follow
 use Rattle.asm_laws.proofs.Control.{still, entered_sim}
 use Rattle.asm_laws.specs.Addresses.{having, Held}
 use Rattle.asm_laws.proofs.Stepping.{line_effect, readable_word}
-use Rattle.asm_laws.specs.Holds.{Setting, Fits, Ctx, Lives, Stands}
-use Rattle.asm_laws.specs.Calling.{Mach, Given, EndedIn, lang, holder, shapes}
+use Rattle.asm_laws.specs.Holds.{Setting, sizes, Fits, Ctx, Lives, Stands}
+use Rattle.obj_mem.specs.Stores.{has_room}
+use Rattle.asm_laws.specs.Calling.{Mach, Given, ExitAt, EndedIn, lang, holder, shapes}
 use Rattle.asm_laws.specs.Linked.{Linked, first_context, first_words}
 use Rattle.asm_laws.proofs.First.{cell_wide}
 use Rattle.asm_laws.proofs.Words.{readable_in}
@@ -213,8 +214,33 @@ module _ (S : Setting) (card : Option (List ℕ)) (boot rest : ℕ) (l : Linked 
         held = h.held;
       }
 
-  left_given : (t : State Where) (m : machine.State) → Given S κ0 t m → Mach S κ1 t m
-  left_given t m g = left t m (record { place = g.place; words = g.words; at = g.at; registers = g.registers; like = g.like; held = g.held })
+  left_given : (t : State Where) (m : machine.State) → (g : Given S κ0 t m) → Mach S κ1 (record t { cells = g.cells }) m
+  left_given t m g = left (record t { cells = g.cells }) m (record { place = g.place; words = g.words; at = g.at; registers = g.registers; like = g.like; held = g.held })
+
+  -- what places hold is nothing to main
+  module _ (t : State Where) (cells : Where → Cell) where
+    ends_same : (r : Res (State Where)) → main_done (call_done (lang S).none ((lang S).back None (record t { cells = cells })) r) ≡ main_done (call_done (lang S).none ((lang S).back None t) r)
+    ends_same (Next s) = refl
+    ends_same (Leaves k s) = refl
+    ends_same (Repeats k s) = refl
+    ends_same (Returns s) = refl
+    ends_same (Over f s) = refl
+
+    room_same : (b : Bool) (v : State Where) (prev : State Where → Res (State Where)) →
+        main_done (did (if_room b (record t { cells = cells }) v) (λ w. call_done (lang S).none ((lang S).back None (record t { cells = cells })) (prev w))) ≡ main_done (did (if_room b t v) (λ w. call_done (lang S).none ((lang S).back None t) (prev w)))
+    room_same true v prev = ends_same (prev v)
+    room_same false v prev = refl
+
+    main_same : (n : ℕ) → main_called registers_and_slots S.code S.frames n (record t { cells = cells }) ≡ main_called registers_and_slots S.code S.frames n t
+    main_same zero = refl
+    main_same (suc j) =
+        room_same (has_room (sizes S) S.code.main t.world.store) (begun registers_and_slots (sizes S) (function_at S.code S.code.main).params S.code.main [] t)
+        (meaning.below (lang S) (suc j) ((lang S).body S.code.main))
+
+  -- the start ends where its body does
+  start_ends : (q : ℕ) → ExitAt S boot q → q ≡ S.leaves boot
+  start_ends q (inl e) = e
+  start_ends q (inr r) = let e : None ≡ Some boot = sym l.boot_as ∙ r.0 in absurd cc
 
   module _ (m0 : machine.State) (answers : List ℕ) (n : ℕ) where
     abbrev Here : Final → Type 0
@@ -257,7 +283,9 @@ module _ (S : Setting) (card : Option (List ℕ)) (boot rest : ℕ) (l : Linked 
     start_row n b m1 (Next t) p a = main_row n t a.to (further S l.fits m0 answers n b m1 t (S.leaves boot) 0 (Mach S κ0 t) p a) a.at (left t a.to a.held)
     start_row n b m1 (Leaves k t) p a = strays S l.fits m0 answers n b m1 t _ 0 (Mach S κ0 t) p a
     start_row n b m1 (Repeats k t) p a = strays S l.fits m0 answers n b m1 t _ 1 (Mach S κ0 t) p a
-    start_row n b m1 (Returns t) p a = main_row n t a.to (further S l.fits m0 answers n b m1 t (S.leaves boot) 0 (Given S κ0 t) p a) a.at (left_given t a.to a.held)
+    start_row n b m1 (Returns t) p (q, x, a) =
+        subst (λ z. Shown S l.fits m0 answers n z) (main_same t a.held.cells n)
+        (main_row n (record t { cells = a.held.cells }) a.to (further S l.fits m0 answers n b m1 t q 0 (Given S κ0 t) p a) (a.at ∙ start_ends q x) (left_given t a.to a.held))
     start_row n b m1 (Over f t) p a = shown_final S l.fits m0 answers n b m1 f t p a
 
   -- ---- the opening

@@ -36,7 +36,7 @@ use Rattle.asm_laws.proofs.Stepping.{line_effect, line_turn, reg_other, moved, k
 use Rattle.asm_laws.proofs.LinksStep.{Roomy, calls, part, top_held, based, more_act, ret_act, returns_by, link_at}
 use Rattle.asm_laws.proofs.LinksStep as emitted_calls
 use Rattle.asm_laws.specs.Holds.{Setting, sizes, Named, Fits, Ctx, slot_place, Stands, Temps, HoldsAt}
-use Rattle.asm_laws.specs.Calling.{Callable, Mach, Given, lang, holder, CallAt, shapes, FunctionAt}
+use Rattle.asm_laws.specs.Calling.{Callable, Mach, Given, ExitAt, lang, holder, CallAt, shapes, FunctionAt}
 use Rattle.asm_laws.proofs.Lists.{length_end_from}
 use Rattle.asm_laws.proofs.First.{stands_more, room, set_target}
 use Rattle.asm_laws.proofs.Frames.{top_of, below, inner, room_of, low_write, enter_holds, link_stays, back_holds}
@@ -95,6 +95,11 @@ returns C l base address F a s xs size pc e hi top back h c k = go (size == 0) r
           held = based C (record a { top = w + 1 }) u2 base (moved C (record a1 { top = w + 1 }) (with_register 15 (w + 1) u1) (a.memory w) (top_held C a1 u1 (w + 1) h1));
           nine = reg_other C u1 15 (w + 1) 9 (omega arith) ∙ reg_other C s 15 w 9 (omega arith);
         }
+
+-- wherever a function ends, what takes its frame away stands
+gone_at : (S : Setting) (f pc ends : ℕ) → Stand S.console.words S.address (S.leaves f) (frame_gone (S.whole.frames f).size) ends → ExitAt S f pc → (e : ℕ) × Stand S.console.words S.address pc (frame_gone (S.whole.frames f).size) e
+gone_at S f pc ends exit (inl e) = (ends, subst (λ q. Stand S.console.words S.address q (frame_gone (S.whole.frames f).size) ends) (sym e) exit)
+gone_at S f pc ends exit (inr r) = (r.1, r.2)
 
 -- the cells of places that stay, the others unwritten
 held_cells : ℕ → (Where → Cell) → Where → Cell
@@ -302,8 +307,8 @@ module _ (S : Setting) (fits : Fits S) where
 
     -- ---- the way back
 
-    back_at : FunctionAt S g → (s1 : State Where) (m1 : machine.State) → Given S κ2 s1 m1 → m1.counter ≡ S.leaves g → CameBy (link ∷ []) [] (holder S) m1 (begin (holder S) s1) (back registers_and_slots t (spent w s) s1) p 0 8 (Mach S κ (back registers_and_slots t (spent w s) s1))
-    back_at fn s1 m1 gv e1 = go t at.target split.2.2
+    back_at : FunctionAt S g → (s1 : State Where) (m1 : machine.State) → Given S κ2 s1 m1 → ExitAt S g m1.counter → CameBy (link ∷ []) [] (holder S) m1 (begin (holder S) s1) (back registers_and_slots t (spent w s) s1) p 0 8 (Mach S κ (back registers_and_slots t (spent w s) s1))
+    back_at fn s1 m1 gv out = go t at.target split.2.2
       where
         top_v : gv.words.top + G.size ≡ below S κ g
         top_v = let e = gv.at.stack.top_is in let d = at.callable.depth in omega (arith, e, d)
@@ -313,17 +318,19 @@ module _ (S : Setting) (fits : Fits S) where
         back_v = top_v
 
         link_same : (q : ℕ) → below S κ g ≤ q → q < T → gv.words.memory q ≡ a3.memory q
-        link_same q le lt = link_stays S fits κ st s1.world.store cells s1.cells h.place a3.memory gv.place a3 gv.words g q h3 gv.at (omega (arith, le, big)) le lt
+        link_same q le lt = link_stays S fits κ st s1.world.store cells gv.cells h.place a3.memory gv.place a3 gv.words g q h3 gv.at (omega (arith, le, big)) le lt
 
         -- and the way back
         link_2 : gv.words.memory (way_back G.size gv.words) ≡ next
         link_2 = ap gv.words.memory back_v ∙ link_same (T - 1) (omega arith) (omega (arith, big)) ∙ link_next
 
         home : Returned C link κ.base G.size (having gv.registers gv.words) m1 s1.world.store.answers
-        home = returns C link κ.base S.address F (having gv.registers gv.words) m1 s1.world.store.answers G.size (S.leaves g) fn.ends (omega (arith, back_v, low_t, big)) (omega (arith, back_v, P_top)) link_2 gv.held e1 fn.exit
+        home =
+            let gone = gone_at S g m1.counter fn.ends fn.exit out in
+            returns C link κ.base S.address F (having gv.registers gv.words) m1 s1.world.store.answers G.size m1.counter gone.0 (omega (arith, back_v, low_t, big)) (omega (arith, back_v, P_top)) link_2 gv.held refl gone.1
 
         back_real : HoldsAt S κ (returned_to st s1.world.store) (after_call registers_and_slots cells) gv.place (gone_back G.size κ.base (having gv.registers gv.words))
-        back_real = back_holds S fits κ st s1.world.store cells s1.cells h.place gv.place a3 gv.words (gone_back G.size κ.base (having gv.registers gv.words)) g h3 at.depth gv.at refl refl (let q = at_a.stack.top_is in omega (arith, back_v, q, big, top_a))
+        back_real = back_holds S fits κ st s1.world.store cells gv.cells h.place gv.place a3 gv.words (gone_back G.size κ.base (having gv.registers gv.words)) g h3 at.depth gv.at refl refl (let q = at_a.stack.top_is in omega (arith, back_v, q, big, top_a))
 
         holds : HoldsAt S κ (returned_to st s1.world.store) (after_call registers_and_slots s.cells) gv.place (gone_back G.size κ.base (having gv.registers gv.words))
         holds = after_held S κ (returned_to st s1.world.store) (S.whole.frames κ.fn).registers s.cells gv.place (gone_back G.size κ.base (having gv.registers gv.words)) back_real
@@ -359,7 +366,7 @@ module _ (S : Setting) (fits : Fits S) where
             }
 
     pub enters : FunctionAt S g → Enters (holder S) (shapes S) κ p t g (spent w s) (begun registers_and_slots (sizes S) (function_at S.code g).params g args (spent w s)) m (begin (holder S) s)
-    enters fn = record { inner = κ2; link = link; placed = fn.body; goes = goes fn; back = back_at fn }
+    enters fn = record { inner = κ2; link = link; end = S.leaves g; exit = inl refl; placed = fn.body; goes = goes fn; back = back_at fn }
 
   pub call_sim : (functions : (g : ℕ) → Callable S g → FunctionAt S g) (κ : Ctx) (pc p : ℕ) (t : Option Where) (g : ℕ) (args : List Where) (s : State Where) (m : machine.State) (w : ℕ) → 3 * length args ≤ 4 + w → CallAt S κ.fn pc t g args p → m.counter ≡ pc → Mach S κ s m →
       CallSim (holder S) (shapes S) κ p t g (spent w s) m (begin (holder S) s) ((lang S).enter g args (spent w s))

@@ -12,21 +12,24 @@ use Rattle.mid_code.specs.declared.placed.Where.{Where}
 use Rattle.mid_code.specs.Code.{OpT, NodesT, Stop, Do, Call, Choose, Block, Loop, Leave, Again, Return, CodeT}
 use Rattle.mid_code.specs.Invariants.{AreNodes}
 use Rattle.asm_laws.specs.Names.{jump_label}
-use Rattle.asm_laws.specs.Operations.{Frame, hand, brings, giving, call_items, group_items, group_more}
+use Rattle.asm_laws.specs.declared.made.Made.{Made}
+use Rattle.asm_laws.specs.Operations.{Frame, hand, brings, giving, call_items, group_items, group_more, made_of, made_items, made_or, made_more}
 use Rattle.asm_laws.specs.declared.behind.Behind.{Behind}
 use Rattle.asm_laws.specs.declared.behind.Behind.TheVariants.{Other, End, Turn}
-use Rattle.asm_laws.specs.inner.Emitted.{labels, enclosing, jump, jump_unless, mark, jump_when, choice, first_part, second_part, left_to, alone, ends, is_stop, enclosed, returning, items_past, code_items, inside, is_end, is_turn, again, looped, is_tested, is_round, part_items, test_items}
+use Rattle.asm_laws.specs.inner.Emitted.{labels, enclosing, jump, jump_unless, mark, jump_when, choice, first_part, second_part, left_to, alone, ends, is_stop, enclosed, leaving, left_by, items_past, code_items, inside, is_end, is_turn, again, looped, is_tested, is_round, part_items, test_items}
 use Rattle.asm_laws.specs.Placing.{Line, Bounds, end_of, begin_of, owed, paid, Jumps, Passes, Begins, Past, At}
 use Rattle.asm_laws.specs.Standing.{Stand}
 use Rattle.asm_laws.specs.declared.copying.Copying.{Copying}
 use Rattle.asm_laws.specs.Copies.{copy_at, copy_or}
 use Rattle.asm_laws.specs.Holds.{Setting}
+use Rattle.asm_laws.specs.Calling.{ExitAt}
 use Rattle.asm_laws.specs.Program.{items_at}
 use Rattle.asm_laws.proofs.Split.{split}
 use Rattle.asm_laws.proofs.Control.{end_paid, begin_paid}
 use Rattle.asm_laws.proofs.Enclosing.{innermost, further}
 use Rattle.asm_laws.proofs.Known.{loop_there}
 use Rattle.asm_laws.proofs.Leaving.{left_is}
+use Rattle.asm_laws.proofs.Results.{Gives, made_gives, not_tested, NoResult, group_none}
 
 abbrev Few : ℕ → Type 0
 Few n = n < 2 ^ 32 - 1
@@ -45,7 +48,17 @@ stops (Return p c) e = absurd cc
 not_zero : (k : ℕ) → (suc k == 0) ≡ false
 not_zero k = grind (arith, nat_tests)
 
-module _ (S : Setting) (f out : ℕ) (leave : S.address (jump_label out) ≡ S.leaves f) where
+-- what leaves a function stands where it ends, and what leaves the start goes there
+abbrev pub Leaves : Setting → ℕ → Option ℕ → Type 0
+Leaves S f out = (p q : ℕ) → Stand S.console.words S.address p (leaving (S.whole.frames f) out) q → (z : ℕ) × Passes S.console.words p z × ExitAt S f z
+
+pub function_leaves : (S : Setting) (f : ℕ) → S.called_as f ≡ Some f → Leaves S f None
+function_leaves S f called p q h = (p, inr refl, inr (called, q, h))
+
+pub start_leaves : (S : Setting) (f n : ℕ) → S.address (jump_label n) ≡ S.leaves f → Leaves S f (Some n)
+start_leaves S f n at p q h = (S.leaves f, inl (h.0, subst (λ z. Line S.console.words p (instr.Go JMP (src.Imm z)) h.0) at h.1), inl refl)
+
+module _ (S : Setting) (f : ℕ) (out : Option ℕ) (leave : Leaves S f out) where
   abbrev label : ℕ → ℕ
   label n = S.address (jump_label n)
 
@@ -218,10 +231,10 @@ module _ (S : Setting) (f out : ℕ) (leave : S.address (jump_label out) ≡ S.l
   deeper ls n bs b same = let h = length-append ls (n ∷ []) in omega (arith, h, same)
 
   module _ (x : CodeT Where) (m : ℕ) where
-    given : (es : List Bounds) (last : Behind) (p q : ℕ) → Over es last q → Here p (cond (is_end last) [] (jump out ∷ [])) q → Passes S.console.words p (S.leaves f)
-    given es End p q over h = inr (h ∙ over)
-    given es Other p q over h = inl (jumps_to p h.0 (label out) (S.leaves f) h.1 leave)
-    given es Turn p q over h = inl (jumps_to p h.0 (label out) (S.leaves f) h.1 leave)
+    given : (es : List Bounds) (last : Behind) (p q : ℕ) → Over es last q → Here p (left_by F out (is_end last)) q → (z : ℕ) × Passes S.console.words p z × ExitAt S f z
+    given es End p q over h = (S.leaves f, inr (h ∙ over), inl refl)
+    given es Other p q over h = leave p q h
+    given es Turn p q over h = leave p q h
 
     -- the next turn begins
     begun : (ls : List ℕ) (es : List Bounds) (k : ℕ) (last : Behind) (p q : ℕ) → Enclose ls es → k < length ls → Over es last q → Here p (again ls k last) q → Begins S.console.words (owed es k) p (begin_of es k)
@@ -235,7 +248,8 @@ module _ (S : Setting) (f out : ℕ) (leave : S.address (jump_label out) ≡ S.l
     -- nodes that end with the next turn have no end of their own
     anywhere : (es : List Bounds) (c : NodesT Where) (done pc e q : ℕ) → is_round c ≡ true → Past (items_at S) f es pc c done e → Past (items_at S) f es pc c done q
     anywhere es Stop done pc e q is at = absurd cc
-    anywhere es (Do o c) zero pc e q is at = (at.0, at.1, at.2, anywhere es c at.0 at.1 e q is at.3)
+    anywhere es (Do o c) zero pc e q is (inl h) = inl h
+    anywhere es (Do o c) zero pc e q is (inr at) = inr (at.0, at.1, at.2, anywhere es c at.0 at.1 e q is at.3)
     anywhere es (Do o c) (suc k) pc e q is at = anywhere es c k pc e q is at
     anywhere es (Call t g args c) done pc e q is at = (at.0, at.1, anywhere es c zero at.0 e q is at.2)
     anywhere es (Choose w a b c) done pc e q is at = (at.0, at.1, at.2, at.3, at.4, at.5, at.6, at.7, anywhere es c zero at.3 e q is at.8)
@@ -310,18 +324,46 @@ module _ (S : Setting) (f out : ℕ) (leave : S.address (jump_label out) ≡ S.l
     copied_at b xs es done pc q None e h go = let r = go h in (r.1, inr (r.0, r.2, r.3), r.4)
     copied_at b xs es done pc q (Some y) e h go = (q, inl (y, e, h), refl)
 
+    -- behind an operator's word that is given back
+    ends_at : (c : NodesT Where) (k : ℕ) → Gives k c → (last : Behind) (es : List Bounds) (ls : List ℕ) (n q e : ℕ) → Over es last e → Here q (past last ls n c k) e → (z : ℕ) × Passes S.console.words q z × ExitAt S f z
+    ends_at (Do o c) (suc k) g last es ls n q e over h = ends_at c k g last es ls n q e over h
+    ends_at (Return w c) (suc k) g last es ls n q e over h =
+        let s = parts (left_by F out (is_end (ends last c))) (past last ls n c zero) q e h in
+        given es (ends last c) q s.0 (shut es c last ls n s.0 e over s.2) s.1
+    ends_at _ zero g last es ls n q e over h = absurd g
+    ends_at _ (suc k) g last es ls n q e over h = absurd g
+
+    -- an operation that comes next, with all that is done with it
+    next_at : (o : OpT Where) (c : NodesT Where) (last : Behind) (es : List Bounds) (ls : List ℕ) (n pc e : ℕ) (x : Option (ℕ × Made)) → made_of S.whole F o c ≡ x → Over es last e →
+        ((q : ℕ) → Here q (past last ls n c (group_more S.whole F o c)) e → Past (items_at S) f es q c (group_more S.whole F o c) e) →
+        Here pc (made_or F x (group_items S.whole F o c) ++ past last ls n c (made_more x (group_more S.whole F o c))) e → Past (items_at S) f es pc (Do o c) zero e
+    next_at o c last es ls n pc e None is over go h =
+        let s = parts (group_items S.whole F o c) (past last ls n c (group_more S.whole F o c)) pc e h in
+        inr (group_more S.whole F o c, s.0, (s.1, refl), go s.0 s.2)
+    next_at o c last es ls n pc e (Some (k, y)) is over go h =
+        let s = parts (made_items F y) (past last ls n c k) pc e h in
+        let l = ends_at c k (made_gives S.whole F o c k y is) last es ls n s.0 e over s.2 in
+        inl (k, y, is, s.0, s.1, l.0, l.1, l.2)
+
+    -- and before a test
+    next_test : (o : OpT Where) (c : NodesT Where) (es : List Bounds) (to pc e : ℕ) (x : Option (ℕ × Made)) → made_of S.whole F o c ≡ x → is_tested c ≡ true →
+        ((q : ℕ) → Here q (test_items S.whole F out to c (group_more S.whole F o c)) e → Past (items_at S) f es q c (group_more S.whole F o c) e) →
+        Here pc (made_or F x (group_items S.whole F o c) ++ test_items S.whole F out to c (made_more x (group_more S.whole F o c))) e → Past (items_at S) f es pc (Do o c) zero e
+    next_test o c es to pc e None is tested go h =
+        let s = parts (group_items S.whole F o c) (test_items S.whole F out to c (group_more S.whole F o c)) pc e h in
+        inr (group_more S.whole F o c, s.0, (s.1, refl), go s.0 s.2)
+    next_test o c es to pc e (Some (k, y)) is tested go h = absurd (not_tested c k (made_gives S.whole F o c k y is) tested)
+
     mutual
-      pub code_at : (c : NodesT Where) (done : ℕ) (last : Behind) (bs : List Bool) (ls : List ℕ) (es : List Bounds) (n pc e : ℕ) → AreNodes x m bs c → length ls ≡ length bs → Few (n + labels c) → Enclose ls es → Over es last e → Here pc (past last ls n c done) e → Past (items_at S) f es pc c done e
-      code_at Stop done last bs ls es n pc e ok same few en over h = h
-      code_at (Do o c) zero last bs ls es n pc e ok same few en over h =
-          let more = group_more S.whole F o c in
-          let s = parts (group_items S.whole F o c) (past last ls n c more) pc e h in
-          (more, s.0, (s.1, refl), code_at c more last bs ls es n s.0 e ok.1 same few en over s.2)
-      code_at (Do o c) (suc j) last bs ls es n pc e ok same few en over h = code_at c j last bs ls es n pc e ok.1 same few en over h
-      code_at (Call t g args c) done last bs ls es n pc e ok same few en over h =
+      pub code_at : (c : NodesT Where) (done : ℕ) (last : Behind) (bs : List Bool) (ls : List ℕ) (es : List Bounds) (n pc e : ℕ) → AreNodes x m bs c → length ls ≡ length bs → Few (n + labels c) → Enclose ls es → Over es last e → NoResult done c → Here pc (past last ls n c done) e → Past (items_at S) f es pc c done e
+      code_at Stop done last bs ls es n pc e ok same few en over none h = h
+      code_at (Do o c) zero last bs ls es n pc e ok same few en over none h =
+          next_at o c last es ls n pc e (made_of S.whole F o c) refl over (λ q k. code_at c (group_more S.whole F o c) last bs ls es n q e ok.1 same few en over (group_none S.whole F o c) k) h
+      code_at (Do o c) (suc j) last bs ls es n pc e ok same few en over none h = code_at c j last bs ls es n pc e ok.1 same few en over none h
+      code_at (Call t g args c) done last bs ls es n pc e ok same few en over none h =
           let s = parts (call_items S.whole F t g args) (past last ls n c zero) pc e h in
-          (s.0, s.1, code_at c zero last bs ls es n s.0 e ok.1 same few en over s.2)
-      code_at (Choose w a b c) done last bs ls es n pc e ok same few en over h =
+          (s.0, s.1, code_at c zero last bs ls es n s.0 e ok.1 same few en over tt s.2)
+      code_at (Choose w a b c) done last bs ls es n pc e ok same few en over none h =
           let here = ends last c in
           let pe = paid_for ls es en in
           let one = past here ls (n + 1) a zero in
@@ -329,16 +371,16 @@ module _ (S : Setting) (f out : ℕ) (leave : S.address (jump_label out) ≡ S.l
           let two = past here ls (n + 1 + labels a + 1) b zero in
           let rest = past last ls (n + (2 + labels a + labels b)) c zero in
           chosen w a b c es n (n + 1 + labels a) pc e here (left_to ls a) one first two rest (is_stop b) refl (λ q k. in_part es (ends last c) q (shut es c last ls (n + (2 + labels a + labels b)) q e over k)) (left_at a bs ls (paid es) ok.0 same pe)
-          (λ p q o k. code_at a zero here bs ls (paid es) (n + 1) p q ok.0 same (omega (arith, few)) pe o k) (λ p q k. code_at a zero Other bs ls (paid es) (n + 1) p q ok.0 same (omega (arith, few)) pe tt k) (λ p q o k. code_at b zero here bs ls (paid es) (n + 1 + labels a + 1) p q ok.1 same (omega (arith, few)) pe o k) (λ q k. code_at c zero last bs ls es (n + (2 + labels a + labels b)) q e ok.2 same (omega (arith, few)) en over k)
+          (λ p q o k. code_at a zero here bs ls (paid es) (n + 1) p q ok.0 same (omega (arith, few)) pe o tt k) (λ p q k. code_at a zero Other bs ls (paid es) (n + 1) p q ok.0 same (omega (arith, few)) pe tt tt k) (λ p q o k. code_at b zero here bs ls (paid es) (n + 1 + labels a + 1) p q ok.1 same (omega (arith, few)) pe o tt k) (λ q k. code_at c zero last bs ls es (n + (2 + labels a + labels b)) q e ok.2 same (omega (arith, few)) en over tt k)
           (parts (cond (is_stop b) (alone F w n (left_to ls a) one) (choice F w n (n + 1 + labels a) first two)) rest pc e h)
-      code_at (Block b c) done last bs ls es n pc e ok same few en over h =
+      code_at (Block b c) done last bs ls es n pc e ok same few en over none h =
           let one = past (inside (ends last c)) (ls ++ n ∷ []) (n + 2) b zero in
           let s = parts (enclosed n one) (past last ls (n + (2 + labels b)) c zero) pc e h in
           let around = record { begins = label n; ends = label (n + 1); owes = true } ∷ es in
           let r = enclosed_at b one es n pc s.0 (inside (ends last c)) (in_body es around (ends last c) s.0 (shut es c last ls (n + (2 + labels b)) s.0 e over s.2))
-          (λ p q o k. code_at b zero (inside (ends last c)) (false ∷ bs) (ls ++ n ∷ []) around (n + 2) p q ok.0 (deeper ls n bs false same) (omega (arith, few)) (enter ls es n (omega (arith, few)) en) o k) s.1 in
-          (r.0, r.1, from es s.0 r.0 e c r.2 (code_at c zero last bs ls es (n + (2 + labels b)) s.0 e ok.1 same (omega (arith, few)) en over s.2))
-      code_at (Loop b c) done last bs ls es n pc e ok same few en over h =
+          (λ p q o k. code_at b zero (inside (ends last c)) (false ∷ bs) (ls ++ n ∷ []) around (n + 2) p q ok.0 (deeper ls n bs false same) (omega (arith, few)) (enter ls es n (omega (arith, few)) en) o tt k) s.1 in
+          (r.0, r.1, from es s.0 r.0 e c r.2 (code_at c zero last bs ls es (n + (2 + labels b)) s.0 e ok.1 same (omega (arith, few)) en over tt s.2))
+      code_at (Loop b c) done last bs ls es n pc e ok same few en over none h =
           let around = record { begins = label n; ends = label (n + 1); owes = true } ∷ es in
           let inner = ls ++ n ∷ [] in
           let all = past (inside (ends last c)) inner (n + 2) b zero in
@@ -347,36 +389,36 @@ module _ (S : Setting) (f out : ℕ) (leave : S.address (jump_label out) ≡ S.l
           let s = parts (copy_or (copy_at done b) (looped (is_tested b) n all part test)) (past last ls (n + (2 + labels b)) c zero) pc e h in
           let closed = enter ls es n (omega (arith, few)) en in
           let r = copied_at b (looped (is_tested b) n all part test) es done pc s.0 (copy_at done b) refl s.1 (λ k. looped_at b all part test es n pc s.0 (inside (ends last c)) (is_tested b) refl (in_body es around (ends last c) s.0 (shut es c last ls (n + (2 + labels b)) s.0 e over s.2))
-          (λ p q o k. code_at b zero (inside (ends last c)) (true ∷ bs) inner around (n + 2) p q ok.0 (deeper ls n bs true same) (omega (arith, few)) closed o k)
+          (λ p q o k. code_at b zero (inside (ends last c)) (true ∷ bs) inner around (n + 2) p q ok.0 (deeper ls n bs true same) (omega (arith, few)) closed o tt k)
           (λ p q t g k. test_at b zero inner around (true ∷ bs) (n + 2) p q t ok.0 (deeper ls n bs true same) (omega (arith, few)) closed (record { end = label n; owes = refl; begins = refl; here = g }) k) k) in
-          (r.0, r.1, from es s.0 r.0 e c r.2 (code_at c zero last bs ls es (n + (2 + labels b)) s.0 e ok.1 same (omega (arith, few)) en over s.2))
-      code_at (Leave k c) done last bs ls es n pc e ok same few en over h =
+          (r.0, r.1, from es s.0 r.0 e c r.2 (code_at c zero last bs ls es (n + (2 + labels b)) s.0 e ok.1 same (omega (arith, few)) en over tt s.2))
+      code_at (Leave k c) done last bs ls es n pc e ok same few en over none h =
           let l = ok.0 in
           let lt : k < length ls = omega (arith, l, same) in
           let w : add (enclosing ls k) 1 ≡ enclosing ls k + 1 = omega (arith, en.few k lt) in
-          (inl (jumps_to pc h.0 _ (end_of es k) h.1 (ap label w ∙ sym (en.ends k lt))), (h.0, code_at c zero last bs ls es n h.0 e ok.1 same few en over h.2))
-      code_at (Again k c) done last bs ls es n pc e ok same few en over h =
+          (inl (jumps_to pc h.0 _ (end_of es k) h.1 (ap label w ∙ sym (en.ends k lt))), (h.0, code_at c zero last bs ls es n h.0 e ok.1 same few en over tt h.2))
+      code_at (Again k c) done last bs ls es n pc e ok same few en over none h =
           let l = loop_there bs k ok.0 in
           let s = parts (again ls k (ends last c)) (past last ls n c zero) pc e h in
-          (begun ls es k (ends last c) pc s.0 en (omega (arith, l, same)) (shut es c last ls n s.0 e over s.2) s.1, (s.0, code_at c zero last bs ls es n s.0 e ok.1 same few en over s.2))
-      code_at (Return w c) done last bs ls es n pc e ok same few en over h =
-          let s = parts (returning F w out (is_end (ends last c))) (past last ls n c zero) pc e h in
-          let t = parts (giving F w) (cond (is_end (ends last c)) [] (jump out ∷ [])) pc s.0 s.1 in
-          ((t.0, t.1, given es (ends last c) t.0 s.0 (shut es c last ls n s.0 e over s.2) t.2), (s.0, code_at c zero last bs ls es n s.0 e ok same few en over s.2))
+          (begun ls es k (ends last c) pc s.0 en (omega (arith, l, same)) (shut es c last ls n s.0 e over s.2) s.1, (s.0, code_at c zero last bs ls es n s.0 e ok.1 same few en over tt s.2))
+      code_at (Return w c) zero last bs ls es n pc e ok same few en over none h =
+          let t = parts (giving F w) (left_by F out (is_end (ends last c)) ++ past last ls n c zero) pc e h in
+          let s = parts (left_by F out (is_end (ends last c))) (past last ls n c zero) t.0 e t.2 in
+          let g = given es (ends last c) t.0 s.0 (shut es c last ls n s.0 e over s.2) s.1 in
+          ((t.0, t.1, g.0, g.1, g.2), (s.0, code_at c zero last bs ls es n s.0 e ok same few en over tt s.2))
+      code_at (Return w c) (suc k) last bs ls es n pc e ok same few en over none h = absurd none
 
       -- The operations and the test of a loop that is only that, where what is done in a turn stands from the test's label to the loop's beginning.
       test_at : (c : NodesT Where) (done : ℕ) (ls : List ℕ) (es : List Bounds) (bs : List Bool) (n pc e : ℕ) → is_tested c ≡ true → AreNodes x m bs c → length ls ≡ length bs → Few (n + labels c) → Enclose ls es →
           Turns ls es n c → Here pc (test_items S.whole F out n c done) e → Past (items_at S) f es pc c done e
       test_at (Do o c) zero ls es bs n pc e is ok same few en t h =
-          let more = group_more S.whole F o c in
-          let s = parts (group_items S.whole F o c) (test_items S.whole F out n c more) pc e h in
-          (more, s.0, (s.1, refl), test_at c more ls es bs n s.0 e is ok.1 same few en (behind ls es n o c t) s.2)
+          next_test o c es n pc e (made_of S.whole F o c) refl is (λ q k. test_at c (group_more S.whole F o c) ls es bs n q e is ok.1 same few en (behind ls es n o c t) k) h
       test_at (Do o c) (suc k) ls es bs n pc e is ok same few en t h = test_at c k ls es bs n pc e is ok.1 same few en (behind ls es n o c t) h
       test_at (Choose w a b c) done ls es bs n pc e is ok same few en t h =
           let i = tests b c a is in
           let s = parts (brings F w 9) (jump_when (hand w 9) n ∷ test_items S.whole F out n c zero) pc e h in
           let z : s.2.0 ≡ e = subst (λ y. Here s.2.0 (test_items S.whole F out n y zero) e) (stops c i.1) s.2.2 in
-          let first = code_at a zero Turn bs ls (paid es) (n + 1) (label n) t.end ok.0 same (omega (arith, few)) (paid_for ls es en) (t.owes, t.begins) t.here in (
+          let first = code_at a zero Turn bs ls (paid es) (n + 1) (label n) t.end ok.0 same (omega (arith, few)) (paid_for ls es en) (t.owes, t.begins) tt t.here in (
             label n,
             e,
             e,
@@ -397,4 +439,4 @@ module _ (S : Setting) (f out : ℕ) (leave : S.address (jump_label out) ≡ S.l
 
     -- the body of a function stands where its items do
     pub body_at : (c : NodesT Where) (n pc e : ℕ) → AreNodes x m [] c → Few (n + labels c) → e ≡ S.leaves f → Here pc (items [] n c) e → CodeAt [] pc c e
-    body_at c n pc e ok few over h = code_at c zero End [] [] [] n pc e ok refl few (record { few = λ k lt. absurd (omega arith); ends = λ k lt. absurd (omega arith); begins = λ k lt. absurd (omega arith) }) over h
+    body_at c n pc e ok few over h = code_at c zero End [] [] [] n pc e ok refl few (record { few = λ k lt. absurd (omega arith); ends = λ k lt. absurd (omega arith); begins = λ k lt. absurd (omega arith) }) over tt h

@@ -102,7 +102,7 @@ module _ (L : Lang Where) (X : Holder L) where
   after κ m b t pc i n k e ls R (Next u) le f g = came_came m b t u pc e i 0 0 0 R (X.M κ u) f g (omega arith)
   after κ m b t pc i n k e ls R (Leaves j u) le f g = came_came m b t u pc (end_of ls j) i 0 0 0 R (X.M κ u) f g (omega arith)
   after κ m b t pc i n k e ls R (Repeats j u) le f g = came_came m b t u pc (begin_of ls j) i (due (owed ls j)) (due (owed ls j)) 0 R (X.M κ u) f g (omega arith)
-  after κ m b t pc i n k e ls R (Returns u) le f g = came_came m b t u pc (X.way_out (X.fn κ)) i 0 0 0 R (X.G κ u) f g (omega arith)
+  after κ m b t pc i n k e ls R (Returns u) le f (q, x, g) = (q, x, came_came m b t u pc q i 0 0 0 R (X.G κ u) f g (omega arith))
   after κ m b t pc i n k e ls R (Over h u) le f g = came_final [] m b t u pc i n k R h le f g
 
   -- the same from an earlier beginning
@@ -131,7 +131,7 @@ module _ (L : Lang Where) (X : Holder L) where
   earlier κ m b d e n ls (Next t) ea ee le f = earlier_came m b d t e 0 0 (X.M κ t) ea ee le f
   earlier κ m b d e n ls (Leaves k t) ea ee le f = earlier_came m b d t (end_of ls k) 0 0 (X.M κ t) ea ee le f
   earlier κ m b d e n ls (Repeats k t) ea ee le f = earlier_came m b d t (begin_of ls k) (due (owed ls k)) 0 (X.M κ t) ea ee le f
-  earlier κ m b d e n ls (Returns t) ea ee le f = earlier_came m b d t (X.way_out (X.fn κ)) 0 0 (X.G κ t) ea ee le f
+  earlier κ m b d e n ls (Returns t) ea ee le (q, x, f) = (q, x, earlier_came m b d t q 0 0 (X.G κ t) ea ee le f)
   earlier κ m b d e n ls (Over g t) ea ee le f = earlier_final m b d t n g ea ee le f
 
   -- the same behind a step, which no turn owes any more
@@ -140,7 +140,7 @@ module _ (L : Lang Where) (X : Holder L) where
   stepped κ m b t pc n e ls R (Leaves j u) f g = subst (λ q. Came X m b u q 0 0 (X.M κ u)) (end_paid ls j) (came_came m b t u pc (end_of (paid ls) j) 1 0 0 0 R (X.M κ u) f g (omega arith))
   stepped κ m b t pc n e ls R (Repeats j u) f g =
       subst (λ q. Came X m b u q (due (owed ls j)) 0 (X.M κ u)) (begin_paid ls j) (came_came m b t u pc (begin_of (paid ls) j) 1 (due (owed (paid ls) j)) (due (owed ls j)) 0 R (X.M κ u) f g (one_due (owed ls j) (due (owed (paid ls) j))))
-  stepped κ m b t pc n e ls R (Returns u) f g = came_came m b t u pc (X.way_out (X.fn κ)) 1 0 0 0 R (X.G κ u) f g (omega arith)
+  stepped κ m b t pc n e ls R (Returns u) f (q, x, g) = (q, x, came_came m b t u pc q 1 0 0 0 R (X.G κ u) f g (omega arith))
   stepped κ m b t pc n e ls R (Over h u) f g = came_final [] m b t u pc 1 n n R h (omega arith) f g
 
   pub here : (κ : X.K) (m : State) (s : L.S) (pc : ℕ) → m.counter ≡ pc → X.M κ s m → Came X m (begin X s) s pc 0 0 (X.M κ s)
@@ -265,7 +265,7 @@ module _ (L : Lang Where) (X : Holder L) where
 
     -- a body that has ended, and the way back
     call_end : (κ : X.K) (p n k : ℕ) (ls : List Bounds) (t : Option Where) (f : ℕ) (u s0 : L.S) (m : State) (b : Begin) (r : Res L.S) → (en : Enters X H κ p t f u s0 m b) → n ≤ suc k →
-        ((m1 : State) → m1.counter ≡ X.entry f → X.M en.inner s0 m1 → Sim X en.inner m1 (begin X s0) (X.way_out (X.fn en.inner)) k [] r) → Sim X κ m b p n ls (call_done L.none (L.back t u) r)
+        ((m1 : State) → m1.counter ≡ X.entry f → X.M en.inner s0 m1 → Sim X en.inner m1 (begin X s0) en.end k [] r) → Sim X κ m b p n ls (call_done L.none (L.back t u) r)
     unfolding came_by came_in
     call_end κ p n k ls t f u s0 m b r en le go = finish r (go en.goes.to en.goes.at en.goes.held)
       where
@@ -273,28 +273,28 @@ module _ (L : Lang Where) (X : Holder L) where
         from : (s1 : L.S) (q i : ℕ) (R : State → Type 0) → (a : Came X en.goes.to (begin X s0) s1 q i 0 R) → CameBy [] (en.link ∷ []) X m (spare 8 b) s1 q 0 0 R
         from s1 q i R a = came_by [] (en.link ∷ []) (en.link ∷ []) m (spare 8 b) s0 s1 (X.entry f) q 1 i 0 0 (X.M en.inner s0) R en.goes (came_in en.link en.goes.to (begin X s0) s1 q i 0 R a) (omega arith)
 
-        home : (s1 : L.S) → (a : Came X en.goes.to (begin X s0) s1 (X.way_out (X.fn en.inner)) 0 0 (X.G en.inner s1)) → Came X m b (L.back t u s1) p 0 0 (X.M κ (L.back t u s1))
-        home s1 a =
-            let g = en.back s1 a.to a.held a.at in
-            let c = came_by [] (en.link ∷ []) [] m (spare 8 b) s1 (L.back t u s1) (X.way_out (X.fn en.inner)) p 0 0 0 8 (X.G en.inner s1) (X.M κ (L.back t u s1)) (from s1 (X.way_out (X.fn en.inner)) 0 (X.G en.inner s1) a) g (omega arith) in
+        home : (s1 : L.S) (q : ℕ) → X.exits (X.fn en.inner) q → (a : Came X en.goes.to (begin X s0) s1 q 0 0 (X.G en.inner s1)) → Came X m b (L.back t u s1) p 0 0 (X.M κ (L.back t u s1))
+        home s1 q x a =
+            let g = en.back s1 a.to a.held (subst (X.exits (X.fn en.inner)) (sym a.at) x) in
+            let c = came_by [] (en.link ∷ []) [] m (spare 8 b) s1 (L.back t u s1) q p 0 0 0 8 (X.G en.inner s1) (X.M κ (L.back t u s1)) (from s1 q 0 (X.G en.inner s1) a) g (omega arith) in
             record { steps = c.steps; made = c.made; to = c.to; by = c.by; at = c.at; held = c.held; events = c.events; cost = omega (arith, c.cost); many = omega arith }
 
-        unset : (s1 : L.S) → Came X en.goes.to (begin X s0) s1 (X.way_out (X.fn en.inner)) 0 0 (X.M en.inner s1) → Came X en.goes.to (begin X s0) (L.none s1) (X.way_out (X.fn en.inner)) 0 0 (X.G en.inner (L.none s1))
+        unset : (s1 : L.S) → Came X en.goes.to (begin X s0) s1 en.end 0 0 (X.M en.inner s1) → Came X en.goes.to (begin X s0) (L.none s1) en.end 0 0 (X.G en.inner (L.none s1))
         unset s1 a = record { steps = a.steps; made = a.made; to = a.to; by = subst (λ xs. Reaches a.steps en.goes.to (X.answers s0) a.made a.to xs) (sym (parts.none_answers s1)) a.by; at = a.at; held = parts.none en.inner s1 a.to a.held; events = parts.none_events s1 ∙ a.events; cost = omega (arith, a.cost, parts.none_work s1); many = omega arith }
 
         strays : (s1 : L.S) (q i : ℕ) → Came X en.goes.to (begin X s0) s1 q i 0 (X.M en.inner s1) → Going X m b s1 0
         strays s1 q i a = earlier_going m b (spare 8 b) s1 0 refl refl (omega arith) (still (en.link ∷ []) m (spare 8 b) s1 q 0 (X.M en.inner s1) (from s1 q i (X.M en.inner s1) a))
 
-        finish : (r : Res L.S) → Sim X en.inner en.goes.to (begin X s0) (X.way_out (X.fn en.inner)) k [] r → Sim X κ m b p n ls (call_done L.none (L.back t u) r)
-        finish (Next s1) a = home (L.none s1) (unset s1 a)
+        finish : (r : Res L.S) → Sim X en.inner en.goes.to (begin X s0) en.end k [] r → Sim X κ m b p n ls (call_done L.none (L.back t u) r)
+        finish (Next s1) a = home (L.none s1) en.end en.exit (unset s1 a)
         finish (Leaves j s1) a = strays s1 (end_of [] j) 0 a
         finish (Repeats j s1) a = strays s1 (begin_of [] j) 1 a
-        finish (Returns s1) a = home s1 a
+        finish (Returns s1) (q, x, a) = home s1 q x a
         finish (Over g s1) a = earlier_final m b (spare 8 b) s1 n g refl refl (omega arith) (came_final (en.link ∷ []) m (spare 8 b) s0 s1 (X.entry f) 1 n k (X.M en.inner s0) g (omega (arith, le)) en.goes a)
 
     pub entered_sim : (κ : X.K) (p n k : ℕ) (ls : List Bounds) (t : Option Where) (f : ℕ) (u : L.S) (m : State) (b : Begin) (d : Did L.S) (prev : NodesT Where → L.S → Res L.S) → n ≤ suc k → Before k prev → CallSim X H κ p t f u m b d →
         Sim X κ m b p n ls (did d (λ v. call_done L.none (L.back t u) (prev (L.body f) v)))
-    entered_sim κ p n k ls t f u m b (On s0) prev le bef en = call_end κ p n k ls t f u s0 m b (prev (L.body f) s0) en le (λ m1 e1 h1. bef en.inner (X.entry f) (X.way_out (X.fn en.inner)) [] (L.body f) s0 m1 en.placed e1 h1)
+    entered_sim κ p n k ls t f u m b (On s0) prev le bef en = call_end κ p n k ls t f u s0 m b (prev (L.body f) s0) en le (λ m1 e1 h1. bef en.inner (X.entry f) en.end [] (L.body f) s0 m1 en.placed e1 h1)
     entered_sim κ p n k ls t f u m b (Ends g s0) prev le bef a = a n
 
     called_sim : (κ : X.K) (p n k w : ℕ) (ls : List Bounds) (t : Option Where) (f : ℕ) (args : List Where) (s : L.S) (m : State) (prev : NodesT Where → L.S → Res L.S) → n ≤ suc k → Before k prev → X.M κ s m →
@@ -333,7 +333,9 @@ module _ (L : Lang Where) (X : Holder L) where
     -- The first operations of nodes are done, as many as are counted, and the machine stands behind them.
     nodes : (n k : ℕ) → n ≤ suc k → Before k (below L n) → (κ : X.K) (pc e : ℕ) (ls : List Bounds) (c : NodesT Where) (done : ℕ) (b : Begin) (s : L.S) (m : State) → Past H (X.fn κ) ls pc c done e → knows X c done s → DidSim X κ m b pc (front_acts L c done s) → Sim X κ m b e n ls (does L n (below L n) c s)
     nodes n k le bef κ pc e ls Stop j b s m at kn d = subst (λ q. Came X m b s q 0 0 (X.M κ s)) at d
-    nodes n k le bef κ pc e ls (Do o c) zero b s m at kn d =
+    nodes n k le bef κ pc e ls (Do o c) zero b s m (inl h) kn d =
+        after κ m b s pc 0 n n e ls (X.M κ s) (did (L.act o s) (does L n (below L n) c)) (omega arith) d (parts.made κ pc o c s d.to h d.at d.held e n ls)
+    nodes n k le bef κ pc e ls (Do o c) zero b s m (inr at) kn d =
         after κ m b s pc 0 n n e ls (X.M κ s) (did (L.act o s) (does L n (below L n) c)) (omega arith) d
         (done_sim κ d.to (begin X s) at.1 e n ls (L.act o s) (front_acts L c at.0) (does L n (below L n) c) (parts.op κ pc at.1 at.0 o c s d.to at.2 d.at d.held) (λ t q a. nodes n k le bef κ at.1 e ls c at.0 (begin X s) t d.to at.3 (parts.knows κ pc at.1 at.0 o c s t at.2 q) a))
     nodes n k le bef κ pc e ls (Do o c) (suc j) b s m at kn d =

@@ -1,11 +1,11 @@
 -- Where the functions of a program stand among the words that its items stand in.
 use Rattle.std.proofs.Common.{◌≡◌, ℕ, zero, suc, ◌+◌, ◌-◌, ◌^◌, ◌<◌, List, [], ◌∷◌, ◌++◌, length, subst, arith}
-use Rattle.std.specs.Prelude.{get_or}
+use Rattle.std.specs.Prelude.{get_or, None}
 use Rattle.asm_items.specs.declared.item.AsmItem.{AsmItem}
 use Rattle.mid_code.specs.declared.placed.Where.{Where}
 use Rattle.mid_code.specs.Code.{NodesT, FunctionT}
 use Rattle.mid_code.specs.States.{no_function}
-use Rattle.asm_laws.specs.Names.{jump_label, function_label}
+use Rattle.asm_laws.specs.Names.{function_label}
 use Rattle.asm_laws.specs.Operations.{Whole}
 use Rattle.asm_laws.specs.Framing.{frame_made, frame_gone}
 use Rattle.asm_laws.specs.inner.Emitted.{labels, functions_labels, code_items, entry_items, exit_items, function_items, functions_items}
@@ -20,19 +20,18 @@ module _ (words : List ℕ) (address : List ℕ → ℕ) (W : Whole) where
   pub record FoundAt (f : ℕ) (body : NodesT Where) (enters leaves : ℕ) : Type 0 where
     pub begins : ℕ
     pub ends : ℕ
-    pub out : ℕ
-    pub few : out + 1 + labels body < 2 ^ 32 - 1
+    pub first : ℕ
+    pub few : first + 1 + labels body < 2 ^ 32 - 1
     pub label : address (function_label W.names f) ≡ begins
     pub entry : Here begins (frame_made (W.frames f).size) enters
-    pub inner : Here enters (code_items W (W.frames f) out [] (out + 1) body) leaves
-    pub leave : address (jump_label out) ≡ leaves
+    pub inner : Here enters (code_items W (W.frames f) None [] (first + 1) body) leaves
     pub exit : Here leaves (frame_gone (W.frames f).size) ends
 
   -- the parts of a function: what makes its frame, its body, what takes its frame away
-  pub function_parts : (f n : ℕ) (body : NodesT Where) (pc e : ℕ) → Here pc (function_items W f n body) e → (enters : ℕ) × (leaves : ℕ) × Here pc (entry_items W f (W.frames f)) enters × Here enters (code_items W (W.frames f) n [] (n + 1) body) leaves × Here leaves (exit_items n (W.frames f)) e
+  pub function_parts : (f n : ℕ) (body : NodesT Where) (pc e : ℕ) → Here pc (function_items W f n body) e → (enters : ℕ) × (leaves : ℕ) × Here pc (entry_items W f (W.frames f)) enters × Here enters (code_items W (W.frames f) None [] (n + 1) body) leaves × Here leaves (exit_items n (W.frames f)) e
   function_parts f n body pc e h =
-      let a = split words address (entry_items W f (W.frames f)) (code_items W (W.frames f) n [] (n + 1) body ++ exit_items n (W.frames f)) pc e h in
-      let b = split words address (code_items W (W.frames f) n [] (n + 1) body) (exit_items n (W.frames f)) a.0 e a.2 in
+      let a = split words address (entry_items W f (W.frames f)) (code_items W (W.frames f) None [] (n + 1) body ++ exit_items n (W.frames f)) pc e h in
+      let b = split words address (code_items W (W.frames f) None [] (n + 1) body) (exit_items n (W.frames f)) a.0 e a.2 in
       (a.0, b.0, a.1, b.1, b.2)
 
   function_found : (f n : ℕ) (body : NodesT Where) (pc e : ℕ) → n + 1 + labels body < 2 ^ 32 - 1 → (h : Here pc (function_items W f n body) e) → FoundAt f body (function_parts f n body pc e h).0 (function_parts f n body pc e h).1
@@ -43,12 +42,11 @@ module _ (words : List ℕ) (address : List ℕ → ℕ) (W : Whole) where
       record {
         begins = pc;
         ends = e;
-        out = n;
+        first = n;
         few = few;
         label = en.1.0;
         entry = subst (λ q. Here q (frame_made (W.frames f).size) p.0) en.1.1 en.2;
         inner = p.3;
-        leave = ex.1.0;
         exit = subst (λ q. Here q (frame_gone (W.frames f).size) e) ex.1.1 ex.2;
       }
 

@@ -14,13 +14,16 @@ use Rattle.asm_items.specs.declared.item.AsmItem.TheVariants as item
 use Rattle.asm_items.specs.Items.{Imm}
 use Rattle.mid_code.specs.declared.placed.Where.{Where}
 use Rattle.mid_code.specs.declared.placed.Where.TheVariants.{Reg, Slot}
+use Rattle.mid_code.specs.Placed.{is_same_place}
 use Rattle.mid_code.specs.Code.{OpT, ConstO, TwoO, GlobalO, StepO, LoadO, StoreO, OutO, NodesT, Do}
+use Rattle.asm_laws.specs.declared.made.Made.{Made}
+use Rattle.asm_laws.specs.declared.made.Made.TheVariants.{Both, Known}
 use Rattle.asm_laws.specs.declared.used.Used.{Used}
 use Rattle.asm_laws.specs.declared.used.Used.TheVariants.{Computed, Loaded, Indexed, Offset, Stored, Sent}
 use Rattle.asm_laws.specs.Pieces.{register, is_in, turned, other_word, loads_there}
 use Rattle.asm_laws.specs.Spare.{beside, operand, in_slots, at_address, at_sum, index, index_behind, indexed, offset_load, offset_sum, offset_step, offset_behind, offset, or_else, used_by}
 use Rattle.asm_laws.specs.Spare as spare
-use Rattle.asm_laws.specs.Operations.{Frame, Whole, fetch, fetches, hand, op_items, word_put, first_word, summed, first_place, unturned, copied, copied_address, with_copy, with_sum, with_word, taken, brought, either, added, known, using_it, is_spared, with_known, with_more, in_one, before_it, one_or_more, puts_items, led_items, group_items}
+use Rattle.asm_laws.specs.Operations.{Frame, Whole, fetch, fetches, hand, op_items, word_put, first_word, summed, first_place, unturned, copied, copied_address, with_copy, with_sum, with_word, taken, brought, either, added, known, using_it, is_spared, with_known, with_more, in_one, before_it, one_or_more, puts_items, led_items, group_items, given_first, made_both, made_known, made_with, first_made, made_of, made_items, made_or, next_items}
 use Rattle.asm_laws.specs.Operations as emitted
 use Rattle.asm_laws.specs.Copies.{lead}
 
@@ -280,6 +283,51 @@ module _ (W : Whole) (F : Frame) (P : List AsmItem → Type 0) (V : ℕ → Type
   unfolding in_one
   one_or_more_is o (Do p c) f g h one two = more_is o (word_put W o) p c (put_is V W o f g) h one two
   one_or_more_is o _ f g h one two = h
+
+  -- what is known of a word that an operator makes to be given back
+  abbrev MadeFits : OpT Where → Option (ℕ × Made) → Type 0
+  MadeFits o None = Unit {0}
+  MadeFits o (Some (k, Both u a b)) = (t : Where) × (o ≡ TwoO u t a b)
+  MadeFits o (Some (k, Known u a w)) = V w × V (sub 0 w) × ((n : ℕ) → V (add w n))
+
+  abbrev OfBoth : OpT Where → Type 0
+  OfBoth o = (u : TwoOf) (t a b : Where) → o ≡ TwoO u t a b → P (made_items F (Both u a b))
+
+  both_fit : (o : OpT Where) (p : Option Where) → MadeFits o (made_both o p)
+  both_fit (TwoO u t a b) (Some p) = go (is_same_place p t)
+    where
+      go : (same : Bool) → MadeFits (TwoO u t a b) (cond same (Some (1, Both u a b)) None)
+      go true = (t, refl)
+      go false = tt
+  both_fit _ _ = tt
+
+  known_fit : (o : OpT Where) (p : Option Where) (t : Where) (s : Option (ℕ × ℕ)) (x : Option (TwoOf × Where)) → Puts V s → MadeFits o (made_known F p t s x)
+  known_fit o (Some p) t (Some (r, w)) (Some (u, q)) h = go (is_spared F (Some (r, w)) && is_same_place p t)
+    where
+      go : (b : Bool) → MadeFits o (cond b (Some (2, Known u q w)) None)
+      go true = (h.1, h.2, h.3)
+      go false = tt
+  known_fit o _ t _ _ h = tt
+
+  with_fit : (o : OpT Where) (s : Option (ℕ × ℕ)) (c : NodesT Where) → Puts V s → MadeFits o (made_with F s c)
+  with_fit o s (Do (TwoO u t a b) c) h = known_fit o (given_first c) t s (operand u a b) h
+  with_fit o s _ h = tt
+
+  first_fit : (o : OpT Where) (x y : Option (ℕ × Made)) → MadeFits o x → MadeFits o y → MadeFits o (first_made x y)
+  first_fit o None y h g = g
+  first_fit o (Some x) y h g = h
+
+  made_is : (o : OpT Where) (x : Option (ℕ × Made)) (other : List AsmItem) → MadeFits o x → One → Behind → OfBoth o → P other → P (made_or F x other)
+  made_is o None other fit one two both h = h
+  made_is o (Some (k, Both u a b)) other fit one two both h = both u fit.0 a b fit.1
+  made_is o (Some (k, Known u a w)) other fit one two both h = used_is w (Computed u 9 a) (omega arith) fit.0 fit.1 fit.2 one two
+
+  -- and of all that comes next
+  pub next_is : (o : OpT Where) (c : NodesT Where) → ((t : Where) (n : ℕ) → o ≡ ConstO t n → V n × V (sub 0 n) × ((m : ℕ) → V (add n m))) → ((t : Where) (k : ℕ) → o ≡ GlobalO t k → V (get_or W.globals k 0) × V (sub 0 (get_or W.globals k 0)) × ((m : ℕ) → V (add (get_or W.globals k 0) m))) → One → Behind → OfBoth o → P (group_items W F o c) → P (next_items W F o c)
+  unfolding made_of
+  next_is o c f g one two both h =
+      made_is o (first_made (made_both o (given_first c)) (made_with F (word_put W o) c)) (group_items W F o c)
+      (first_fit o (made_both o (given_first c)) (made_with F (word_put W o) c) (both_fit o (given_first c)) (with_fit o (word_put W o) c (put_is V W o f g))) one two both h
 
 -- the same where operations before a loop that copies words are done one after another
 pub group_is : (W : Whole) (F : Frame) (P : List AsmItem → Type 0) (o : OpT Where) (c : NodesT Where) → P (one_or_more W F o (in_one W F o c)) → ((k : ℕ) → lead (Do o c) ≡ Some k → P (puts_items W (Do o c) k)) → P (group_items W F o c)

@@ -31,18 +31,18 @@ use Rattle.mid_code.specs.Runs.{weight}
 use Rattle.asm_laws.specs.Labelled.{HasLabel}
 use Rattle.asm_laws.specs.Names.{jump_label, literal_label, function_label}
 use Rattle.asm_laws.specs.Moves.{Move, in_order}
-use Rattle.asm_laws.specs.Operations.{Frame, Whole, keep, fetches, keeps, keeps_some, hand, brings, takes, aim, lays, moves, changes, is_direct, in_place, apart, is_turned, turned_or_apart, computes, slot_arg, slot_args, moved_items, args_items, call_items, op_items, in_one, one_or_more, giving, start_frame, literal_items, literals_items, puts_items, put_item, group_items, group_more, word_put}
+use Rattle.asm_laws.specs.Operations.{Frame, Whole, keep, fetches, keeps, keeps_some, hand, brings, takes, aim, lays, moves, changes, is_direct, in_place, apart, is_turned, turned_or_apart, computes, slot_arg, slot_args, moved_items, args_items, call_items, op_items, in_one, one_or_more, giving, start_frame, literal_items, literals_items, puts_items, put_item, group_items, giving_left, next_items, next_more, word_put}
 use Rattle.asm_laws.specs.Pieces.{register, is_in, turned}
 use Rattle.asm_laws.specs.Framing.{frame_made, frame_gone}
 use Rattle.asm_laws.proofs.Leaving.{left_is}
 use Rattle.asm_laws.specs.declared.behind.Behind.{Behind}
 use Rattle.asm_laws.specs.declared.behind.Behind.TheVariants.{Other, End, Turn}
-use Rattle.asm_laws.specs.inner.Emitted.{labels, functions_labels, enclosing, jump, jump_unless, mark, first_part, second_part, choice, one_way, alone, left_to, ends, jump_when, is_stop, enclosed, returning, items_past, code_items, entry_items, exit_items, function_items, functions_items, closing_items, start_items, program_items, inside, is_end, is_turn, again, rotated, looped, is_tested, part_items, test_items}
+use Rattle.asm_laws.specs.inner.Emitted.{labels, functions_labels, enclosing, jump, jump_unless, mark, first_part, second_part, choice, one_way, alone, left_to, ends, jump_when, is_stop, enclosed, leaving, left_by, items_past, code_items, entry_items, exit_items, function_items, functions_items, closing_items, start_items, program_items, inside, is_end, is_turn, again, rotated, looped, is_tested, part_items, test_items}
 use Rattle.asm_laws.proofs.Programs.{mapped_from}
 use Rattle.asm_laws.proofs.Walked.{total_more}
 use Rattle.asm_laws.specs.declared.copying.Copying.{Copying}
 use Rattle.asm_laws.specs.Copies.{copy_at, copy_or, items_from}
-use Rattle.asm_laws.proofs.InOne.{TakesWord, one_or_more_is, group_is}
+use Rattle.asm_laws.proofs.InOne.{TakesWord, one_or_more_is, group_is, next_is}
 use Rattle.asm_laws.proofs.Enclosing.{innermost, further}
 use Rattle.asm_laws.proofs.LabelKinds.{Differ}
 use Rattle.asm_laws.proofs.Sizes.{text_words, Counts, program_size, program_few, few_texts}
@@ -241,12 +241,21 @@ module _ (x : CodeT Where) (W : Whole) (Q : List ℕ → Type 0) (of_function : 
   group_uses : (m : ℕ) (F : Frame) (o : OpT Where) (c : NodesT Where) → IsOp x m o → Uses Q (group_items W F o c)
   group_uses m F o c ok = group_is W F (Uses Q) o c (one_uses m F o c ok) (λ k e. puts_uses (Do o c) k)
 
+  next_uses : (m : ℕ) (F : Frame) (o : OpT Where) (c : NodesT Where) → IsOp x m o → Uses Q (next_items W F o c)
+  next_uses m F o c ok =
+      next_is W F (Uses Q) (λ v. Unit {0}) o c (λ t n e. (tt, tt, λ m. tt)) (λ t k e. (tt, tt, λ m. tt)) taking_uses (λ p r i lt h. (fetch_uses F p r, taking_uses i h), λ r q i lr lq h. (tt, taking_uses i h))
+      (λ u t a b e. (fetch_uses F a 9, brought_uses F b 10 _ (tt, tt))) (group_uses m F o c ok)
+
   call_uses : (F : Frame) (t : Option Where) (g : ℕ) (args : List Where) → g < length x.functions → Uses Q (call_items W F t g args)
   call_uses F t g args ok = uses_append Q (args_items F (W.frames g) (W.params g) args) _ (args_uses F (W.frames g) (W.params g) args) (of_function g ok, some_uses F t)
 
   giving_uses : (F : Frame) (p : Option Where) → Uses Q (giving F p)
   giving_uses F None = tt
   giving_uses F (Some p) = (fetch_uses F p 9, tt)
+
+  left_uses : (F : Frame) (p : Option Where) (done : ℕ) → Uses Q (giving_left F p done)
+  left_uses F p zero = giving_uses F p
+  left_uses F p (suc k) = tt
 
   abbrev Jumpable : List ℕ → Type 0
   Jumpable ls = (k : ℕ) → k < length ls → Q (jump_label (enclosing ls k)) × Q (jump_label (add (enclosing ls k) 1))
@@ -269,7 +278,7 @@ module _ (x : CodeT Where) (W : Whole) (Q : List ℕ → Type 0) (of_function : 
   abbrev Knows : List AsmItem → Type 0
   Knows xs = (m : List ℕ) → HasLabel xs m → Q m
 
-  module _ (F : Frame) (out : ℕ) (at_end : Q (jump_label out)) where
+  module _ (F : Frame) (out : Option ℕ) (at_end : Uses Q (leaving F out)) where
     choice_uses : (p : Where) (n m : ℕ) (a b : List AsmItem) → Knows (choice F p n m a b) → (Knows a → Uses Q a) → (Knows b → Uses Q b) → Uses Q (choice F p n m a b)
     choice_uses p n m a b k ua ub =
         let inner = a ++ jump m ∷ mark n ∷ [] in
@@ -334,7 +343,7 @@ module _ (x : CodeT Where) (W : Whole) (Q : List ℕ → Type 0) (of_function : 
     again_uses ls k last q = one_of_both ((k == 0) && is_turn last) [] (jump (enclosing ls k) ∷ []) tt (q, tt)
 
     test_uses : (m : ℕ) (to : ℕ) (c : NodesT Where) (done : ℕ) (bs : List Bool) → AreNodes x m bs c → Q (jump_label to) → Uses Q (test_items W F out to c done)
-    test_uses m to (Do o c) zero bs ok q = let more = group_more W F o c in uses_append Q (group_items W F o c) (test_items W F out to c more) (group_uses m F o c ok.0) (test_uses m to c more bs ok.1 q)
+    test_uses m to (Do o c) zero bs ok q = let more = next_more W F o c in uses_append Q (next_items W F o c) (test_items W F out to c more) (next_uses m F o c ok.0) (test_uses m to c more bs ok.1 q)
     test_uses m to (Do o c) (suc done) bs ok q = test_uses m to c done bs ok.1 q
     test_uses m to (Choose p a b c) done bs ok q = brought_uses F p 9 (jump_when (hand p 9) to ∷ test_items W F out to c 0) (q, test_uses m to c 0 bs ok.2 q)
     test_uses m to Stop done bs ok q = tt
@@ -343,15 +352,15 @@ module _ (x : CodeT Where) (W : Whole) (Q : List ℕ → Type 0) (of_function : 
     test_uses m to (Loop b c) done bs ok q = test_uses m to c 0 bs ok.1 q
     test_uses m to (Leave k c) done bs ok q = test_uses m to c 0 bs ok.1 q
     test_uses m to (Again k c) done bs ok q = test_uses m to c 0 bs ok.1 q
-    test_uses m to (Return p c) done bs ok q = test_uses m to c 0 bs ok q
+    test_uses m to (Return p c) done bs ok q = uses_append Q (giving_left F p done) (test_items W F out to c 0) (left_uses F p done) (test_uses m to c 0 bs ok q)
 
     mutual
       past_uses : (m : ℕ) (c : NodesT Where) (done : ℕ) (last : Behind) (bs : List Bool) (ls : List ℕ) (n : ℕ) → length ls ≡ length bs → AreNodes x m bs c → n + labels c < 2 ^ 32 - 1 → Jumpable ls → Knows (items_past W F out last ls n c done) → Uses Q (items_past W F out last ls n c done)
       past_uses m Stop done last bs ls n same ok few j k = tt
       past_uses m (Do o c) zero last bs ls n same ok few j k =
-          let a = group_items W F o c in
-          let b = items_past W F out last ls n c (group_more W F o c) in
-          uses_append Q a b (group_uses m F o c ok.0) (past_uses m c (group_more W F o c) last bs ls n same ok.1 few j (λ w h. k w (marked_right a b w h)))
+          let a = next_items W F o c in
+          let b = items_past W F out last ls n c (next_more W F o c) in
+          uses_append Q a b (next_uses m F o c ok.0) (past_uses m c (next_more W F o c) last bs ls n same ok.1 few j (λ w h. k w (marked_right a b w h)))
       past_uses m (Do o c) (suc done) last bs ls n same ok few j k = past_uses m c done last bs ls n same ok.1 few j k
       past_uses m (Call t g args c) done last bs ls n same ok few j k =
           let a = call_items W F t g args in
@@ -389,9 +398,10 @@ module _ (x : CodeT Where) (W : Whole) (Q : List ℕ → Type 0) (of_function : 
           let b = items_past W F out last ls n c 0 in
           uses_append Q a b (again_uses ls i (ends last c) (j i (let l = loop_there bs i ok.0 in omega (arith, l, same))).0) (past_uses m c 0 last bs ls n same ok.1 few j (λ w h. k w (marked_right a b w h)))
       past_uses m (Return p c) done last bs ls n same ok few j k =
-          let a = returning F p out (is_end (ends last c)) in
+          let g = giving_left F p done in
+          let a = left_by F out (is_end (ends last c)) in
           let b = items_past W F out last ls n c 0 in
-          uses_append Q a b (uses_append Q (giving F p) (cond (is_end (ends last c)) [] (jump out ∷ [])) (giving_uses F p) (one_of_both (is_end (ends last c)) [] (jump out ∷ []) tt (at_end, tt))) (past_uses m c 0 last bs ls n same ok few j (λ w h. k w (marked_right a b w h)))
+          uses_append Q g (a ++ b) (left_uses F p done) (uses_append Q a b (one_of_both (is_end (ends last c)) [] (leaving F out) tt at_end) (past_uses m c 0 last bs ls n same ok few j (λ w h. k w (marked_right g (a ++ b) w (marked_right a b w h)))))
 
       part_uses : (m : ℕ) (c : NodesT Where) (bs : List Bool) (ls : List ℕ) (n : ℕ) → length ls ≡ length bs → AreNodes x m bs c → n + labels c < 2 ^ 32 - 1 → Jumpable ls → Knows (part_items W F out ls n c) → Uses Q (part_items W F out ls n c)
       part_uses m (Do o c) bs ls n same ok few j k = part_uses m c bs ls n same ok.1 few j k
@@ -424,10 +434,9 @@ module _ (x : CodeT Where) (W : Whole) (Q : List ℕ → Type 0) (of_function : 
   function_uses : (f n : ℕ) (g : FunctionT Where) → Fine g → n + 1 + labels g.body < 2 ^ 32 - 1 → Knows (function_items W f n g.body) → Uses Q (function_items W f n g.body)
   function_uses f n g ok few k =
       let F = W.frames f in
-      let b = code_items W F n [] (n + 1) g.body in
+      let b = code_items W F None [] (n + 1) g.body in
       let more : Knows (b ++ exit_items n F) = λ m h. k m (marked_right (entry_items W f F) (b ++ exit_items n F) m h) in
-      let end : Q (jump_label n) = more (jump_label n) (marked_right b (exit_items n F) (jump_label n) (inl refl)) in
-      uses_append Q (entry_items W f F) (b ++ exit_items n F) (tt, made_uses F.size) (uses_append Q b (exit_items n F) (code_uses F n end (length g.locals) g.body [] [] (n + 1) refl ok few outermost (λ m h. more m (marked_left b (exit_items n F) m h))) (tt, gone_uses F.size))
+      uses_append Q (entry_items W f F) (b ++ exit_items n F) (tt, made_uses F.size) (uses_append Q b (exit_items n F) (code_uses F None (gone_uses F.size) (length g.locals) g.body [] [] (n + 1) refl ok few outermost (λ m h. more m (marked_left b (exit_items n F) m h))) (tt, gone_uses F.size))
 
   functions_uses : (f n : ℕ) (gs : List (FunctionT Where)) → AllOf Fine gs → n + functions_labels gs < 2 ^ 32 - 1 → Knows (functions_items W f n gs) → Uses Q (functions_items W f n gs)
   functions_uses f n [] ok few k = tt
@@ -439,10 +448,10 @@ module _ (x : CodeT Where) (W : Whole) (Q : List ℕ → Type 0) (of_function : 
   start_uses : (main : ℕ) → main < length x.functions → Fine x.start → 1 + labels x.start.body < 2 ^ 32 - 1 → Knows (start_items W main x.start.body) → Uses Q (start_items W main x.start.body)
   start_uses main lt ok few k =
       let F = start_frame in
-      let b = code_items W F 0 [] 1 x.start.body in
+      let b = code_items W F (Some 0) [] 1 x.start.body in
       let more : Knows (b ++ closing_items W main) = k in
       let end : Q (jump_label 0) = more (jump_label 0) (marked_right b (closing_items W main) (jump_label 0) (inl refl)) in
-      uses_append Q b (closing_items W main) (code_uses F 0 end (length x.start.locals) x.start.body [] [] 1 refl ok few outermost (λ m h. more m (marked_left b (closing_items W main) m h))) (tt, (of_function main lt, (tt, tt)))
+      uses_append Q b (closing_items W main) (code_uses F (Some 0) (end, tt) (length x.start.locals) x.start.body [] [] 1 refl ok few outermost (λ m h. more m (marked_left b (closing_items W main) m h))) (tt, (of_function main lt, (tt, tt)))
 
   integers_uses : (bytes : List ℕ) → Uses Q (map item.Integer bytes)
   integers_uses [] = tt

@@ -26,7 +26,7 @@ use Rattle.asm_laws.specs.Calling.{lang, holder, shapes}
 use Rattle.asm_laws.proofs.Leads.{puts_before, puts_elim, lead_is}
 
 -- so many operations come first
-abbrev AreOps : ℕ → NodesT Where → Type 0
+abbrev pub AreOps : ℕ → NodesT Where → Type 0
 AreOps zero c = Unit {0}
 AreOps (suc k) (Do o c) = AreOps k c
 AreOps (suc k) _ = ⊥
@@ -156,7 +156,7 @@ word_ops F (Some (r, w)) p c = go (summed r w p)
     go None = copy_ops F r w p c
     go (Some (q, v)) = loads (loads_there r c) refl (_, _) (_, _)
 
-one_is : (W : Whole) (F : Frame) (o : OpT Where) (c : NodesT Where) → AreOps (more_of (in_one W F o c)) c
+pub one_is : (W : Whole) (F : Frame) (o : OpT Where) (c : NodesT Where) → AreOps (more_of (in_one W F o c)) c
 unfolding in_one
 one_is W F o (Do p c) = go (is_spared F (word_put W o))
   where

@@ -20,6 +20,7 @@ pub mod FillLoop
 pub mod BlockLoop
 pub mod KnownWords
 pub mod UsedStep
+pub mod Results
 pub mod Change
 pub mod Covered
 pub mod Fresh
@@ -29,6 +30,7 @@ pub mod Ops
 pub mod Args
 pub mod Frames
 pub mod Parts
+pub mod GivenBack
 pub mod Calls
 pub mod Whole
 pub mod Opening

@@ -15,15 +15,15 @@ use Rattle.mid_code.specs.declared.placed.Where.TheVariants.{Reg, Slot}
 use Rattle.mid_code.specs.Code.{OpT, ConstO, NullO, MoveO, OneO, TwoO, GlobalO, LocalO, LiteralO, CardO, StepO, ApartO, PtrTestO, LoadO, StoreO, FreshO, EndO, InO, OutO, WaitO, HaltO, NodesT, Stop, Do, Call, Choose, Block, Loop, Leave, Again, Return, FunctionT, CodeT}
 use Rattle.asm_laws.specs.Names.{function_label, literal_label}
 use Rattle.asm_laws.specs.Moves.{Move, in_order}
-use Rattle.asm_laws.specs.Operations.{Frame, Whole, keep, fetches, keeps_some, hand, brings, takes, aim, lays, moves, changes, is_direct, in_place, apart, is_turned, turned_or_apart, computes, slot_arg, slot_args, moved_items, args_items, call_items, op_items, in_one, one_or_more, giving, start_frame, literal_items, literals_items, puts_items, put_item, group_items, group_more, word_put}
+use Rattle.asm_laws.specs.Operations.{Frame, Whole, keep, fetches, keeps_some, hand, brings, takes, aim, lays, moves, changes, is_direct, in_place, apart, is_turned, turned_or_apart, computes, slot_arg, slot_args, moved_items, args_items, call_items, op_items, in_one, one_or_more, giving, start_frame, literal_items, literals_items, puts_items, put_item, group_items, giving_left, next_items, next_more, word_put}
 use Rattle.asm_laws.specs.Pieces.{register, is_in, turned}
 use Rattle.asm_laws.specs.Framing.{frame_made, frame_gone}
 use Rattle.asm_laws.specs.declared.behind.Behind.{Behind}
 use Rattle.asm_laws.specs.declared.behind.Behind.TheVariants.{Other, End, Turn}
-use Rattle.asm_laws.specs.inner.Emitted.{labels, functions_labels, enclosing, jump, jump_unless, mark, choice, one_way, alone, left_to, ends, jump_when, is_stop, enclosed, returning, items_past, code_items, entry_items, exit_items, function_items, functions_items, closing_items, start_items, program_items, labels_of, inside, is_end, is_turn, again, rotated, looped, is_tested, part_items, test_items}
+use Rattle.asm_laws.specs.inner.Emitted.{labels, functions_labels, enclosing, jump, jump_unless, mark, choice, one_way, alone, left_to, ends, jump_when, is_stop, enclosed, leaving, left_by, items_past, code_items, entry_items, exit_items, function_items, functions_items, closing_items, start_items, program_items, labels_of, inside, is_end, is_turn, again, rotated, looped, is_tested, part_items, test_items}
 use Rattle.asm_laws.specs.declared.copying.Copying.{Copying}
 use Rattle.asm_laws.specs.Copies.{copy_at, copy_or, items_from}
-use Rattle.asm_laws.proofs.InOne.{one_or_more_is, group_is}
+use Rattle.asm_laws.proofs.InOne.{one_or_more_is, group_is, next_is}
 use Rattle.asm_laws.proofs.LabelKinds.{Differ, Kind, Jump, Fun, Text, name_of, Valid, kind_same, Range, Box, Within, Aside, jumps, jumps_within, jumps_below, jumps_above}
 
 -- ---- labels of items
@@ -217,12 +217,19 @@ module _ (W : Whole) (differ : Differ W.names) where
   group_bare : (F : Frame) (o : OpT Where) (c : NodesT Where) → Bare (group_items W F o c)
   group_bare F o c = group_is W F (λ xs. Bare xs) o c (one_bare F o c) (λ k e. puts_bare (Do o c) k)
 
+  next_bare : (F : Frame) (o : OpT Where) (c : NodesT Where) → Bare (next_items W F o c)
+  next_bare F o c = next_is W F (λ xs. Bare xs) (λ v. Unit {0}) o c (λ t n e. (tt, tt, λ m. tt)) (λ t k e. (tt, tt, λ m. tt)) (λ i h. tt) (λ p r i lt h. tt, λ r q i lr lq h. tt) (λ u t a b e. brought_bare F b 10 _ tt) (group_bare F o c)
+
   call_bare : (F : Frame) (t : Option Where) (g : ℕ) (args : List Where) → Bare (call_items W F t g args)
   call_bare F t g args = names_append (λ m. ⊥) (args_items F (W.frames g) (W.params g) args) _ (args_bare F (W.frames g) (W.params g) args) (some_bare F t)
 
   giving_bare : (F : Frame) (p : Option Where) → Bare (giving F p)
   giving_bare F None = tt
   giving_bare F (Some p) = tt
+
+  left_bare : (F : Frame) (p : Option Where) (done : ℕ) → Bare (giving_left F p done)
+  left_bare F p zero = giving_bare F p
+  left_bare F p (suc k) = tt
 
   -- ---- nodes
 
@@ -282,9 +289,16 @@ module _ (W : Whole) (differ : Differ W.names) where
   again_bare : (ls : List ℕ) (k : ℕ) (last : Behind) → Bare (again ls k last)
   again_bare ls k last = one_of_both ((k == 0) && is_turn last) [] (jump (enclosing ls k) ∷ []) tt tt
 
-  module _ (F : Frame) (out : ℕ) where
+  gone_bare : (size : ℕ) → Bare (frame_gone size)
+  gone_bare size = one_of_both (size == 0) (item.Op (instr.Plain RET) ∷ []) (item.Op (instr.Two IADD 15 (src.Imm (Left size))) ∷ item.Op (instr.Plain RET) ∷ []) tt tt
+
+  leaving_bare : (F : Frame) (out : Option ℕ) → Bare (leaving F out)
+  leaving_bare F None = gone_bare F.size
+  leaving_bare F (Some n) = tt
+
+  module _ (F : Frame) (out : Option ℕ) where
     test_bare : (to : ℕ) (c : NodesT Where) (done : ℕ) → Bare (test_items W F out to c done)
-    test_bare to (Do o c) zero = let more = group_more W F o c in names_append (λ m. ⊥) (group_items W F o c) (test_items W F out to c more) (group_bare F o c) (test_bare to c more)
+    test_bare to (Do o c) zero = let more = next_more W F o c in names_append (λ m. ⊥) (next_items W F o c) (test_items W F out to c more) (next_bare F o c) (test_bare to c more)
     test_bare to (Do o c) (suc done) = test_bare to c done
     test_bare to (Choose p a b c) done = names_append (λ m. ⊥) (brings F p 9) (jump_when (hand p 9) to ∷ test_items W F out to c 0) (brings_bare F p 9) (test_bare to c 0)
     test_bare to Stop done = tt
@@ -293,7 +307,7 @@ module _ (W : Whole) (differ : Differ W.names) where
     test_bare to (Loop b c) done = test_bare to c 0
     test_bare to (Leave k c) done = test_bare to c 0
     test_bare to (Again k c) done = test_bare to c 0
-    test_bare to (Return p c) done = test_bare to c 0
+    test_bare to (Return p c) done = names_append (λ m. ⊥) (giving_left F p done) (test_items W F out to c 0) (left_bare F p done) (test_bare to c 0)
 
     some_label : (c : NodesT Where) → is_tested c ≡ true → 1 ≤ labels c
     some_label (Do o c) e = some_label c e
@@ -310,8 +324,8 @@ module _ (W : Whole) (differ : Differ W.names) where
       past_marks : (c : NodesT Where) (done : ℕ) (last : Behind) (ls : List ℕ) (n e : ℕ) → n + labels c ≡ e → e ≤ 2 ^ 32 → Marks (jumps n e) (items_past W F out last ls n c done)
       past_marks Stop done last ls n e is few = marks_bare (jumps n e) [] tt
       past_marks (Do o c) zero last ls n e is few =
-          let more = group_more W F o c in
-          bare_then (jumps n e) (group_items W F o c) (items_past W F out last ls n c more) (group_bare F o c) (past_marks c more last ls n e is few)
+          let more = next_more W F o c in
+          bare_then (jumps n e) (next_items W F o c) (items_past W F out last ls n c more) (next_bare F o c) (past_marks c more last ls n e is few)
       past_marks (Do o c) (suc done) last ls n e is few = past_marks c done last ls n e is few
       past_marks (Call t g args c) done last ls n e is few = bare_then (jumps n e) (call_items W F t g args) (items_past W F out last ls n c 0) (call_bare F t g args) (past_marks c 0 last ls n e is few)
       past_marks (Choose p a b c) done last ls n e is few =
@@ -338,7 +352,10 @@ module _ (W : Whole) (differ : Differ W.names) where
           (past_marks c 0 last ls k e (omega (arith, is)) few)
       past_marks (Leave k c) done last ls n e is few = bare_then (jumps n e) (jump _ ∷ []) (items_past W F out last ls n c 0) tt (past_marks c 0 last ls n e is few)
       past_marks (Again k c) done last ls n e is few = bare_then (jumps n e) (again ls k (ends last c)) (items_past W F out last ls n c 0) (again_bare ls k (ends last c)) (past_marks c 0 last ls n e is few)
-      past_marks (Return p c) done last ls n e is few = bare_then (jumps n e) (returning F p out (is_end (ends last c))) (items_past W F out last ls n c 0) (names_append (λ m. ⊥) (giving F p) (cond (is_end (ends last c)) [] (jump out ∷ [])) (giving_bare F p) (one_of_both (is_end (ends last c)) [] (jump out ∷ []) tt tt)) (past_marks c 0 last ls n e is few)
+      past_marks (Return p c) done last ls n e is few =
+          let left = left_by F out (is_end (ends last c)) in
+          let rest = items_past W F out last ls n c 0 in
+          bare_then (jumps n e) (giving_left F p done) (left ++ rest) (left_bare F p done) (bare_then (jumps n e) left rest (one_of_both (is_end (ends last c)) [] (leaving F out) tt (leaving_bare F out)) (past_marks c 0 last ls n e is few))
 
       part_marks : (c : NodesT Where) (ls : List ℕ) (n e : ℕ) → n + labels c ≡ e → e ≤ 2 ^ 32 → Marks (jumps (n + 1) e) (part_items W F out ls n c)
       part_marks (Do o c) ls n e is few = part_marks c ls n e is few
@@ -366,7 +383,7 @@ module _ (W : Whole) (differ : Differ W.names) where
 
   start_marks : (main : ℕ) (body : NodesT Where) (e : ℕ) → 1 + labels body ≡ e → e ≤ 2 ^ 32 → Marks (jumps 0 e) (start_items W main body)
   start_marks main body e is few =
-      falling 0 1 e (code_items W start_frame 0 [] 1 body) (closing_items W main) (omega arith) (omega (arith, is)) (code_marks start_frame 0 body [] 1 e is few) (closing_marks main)
+      falling 0 1 e (code_items W start_frame (Some 0) [] 1 body) (closing_items W main) (omega arith) (omega (arith, is)) (code_marks start_frame (Some 0) body [] 1 e is few) (closing_marks main)
 
   entry_marks : (f : ℕ) → f < length W.names → Marks (span 0 0 f (f + 1) 0 0) (entry_items W f (W.frames f))
   entry_marks f lt =
@@ -376,13 +393,12 @@ module _ (W : Whole) (differ : Differ W.names) where
 
   exit_marks : (n : ℕ) (F : Frame) → n < 2 ^ 32 → Marks (jumps n (n + 1)) (exit_items n F)
   exit_marks n F lt =
-      then_bare (jumps n (n + 1)) (mark n ∷ []) (frame_gone F.size) (mark_one n lt)
-      (one_of_both (F.size == 0) (item.Op (instr.Plain RET) ∷ []) (item.Op (instr.Two IADD 15 (src.Imm (Left F.size))) ∷ item.Op (instr.Plain RET) ∷ []) tt tt)
+      then_bare (jumps n (n + 1)) (mark n ∷ []) (frame_gone F.size) (mark_one n lt) (gone_bare F.size)
 
   function_marks : (f n e : ℕ) (body : NodesT Where) → f < length W.names → n + 1 + labels body ≡ e → e ≤ 2 ^ 32 → Marks (span n e f (f + 1) 0 0) (function_items W f n body)
   function_marks f n e body lt is few =
-      marks_both (span 0 0 f (f + 1) 0 0) (jumps n e) (span n e f (f + 1) 0 0) (entry_items W f (W.frames f)) (code_items W (W.frames f) n [] (n + 1) body ++ exit_items n (W.frames f)) left right apart (entry_marks f lt)
-      (falling n (n + 1) e (code_items W (W.frames f) n [] (n + 1) body) (exit_items n (W.frames f)) (omega arith) (omega (arith, is)) (code_marks (W.frames f) n body [] (n + 1) e is few) (exit_marks n (W.frames f) (omega (arith, is, few))))
+      marks_both (span 0 0 f (f + 1) 0 0) (jumps n e) (span n e f (f + 1) 0 0) (entry_items W f (W.frames f)) (code_items W (W.frames f) None [] (n + 1) body ++ exit_items n (W.frames f)) left right apart (entry_marks f lt)
+      (falling n (n + 1) e (code_items W (W.frames f) None [] (n + 1) body) (exit_items n (W.frames f)) (omega arith) (omega (arith, is)) (code_marks (W.frames f) None body [] (n + 1) e is few) (exit_marks n (W.frames f) (omega (arith, is, few))))
     where
       left : Within (span 0 0 f (f + 1) 0 0) (span n e f (f + 1) 0 0)
       left (Jump k) h = (omega (arith, h), omega (arith, h))

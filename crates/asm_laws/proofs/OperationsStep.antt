@@ -78,6 +78,40 @@ faults_like C a b s t xs limit k le h g m e = record { steps = 1; to = s; by = �
 faults : (C : Console) (a : Addr) (s : State) (xs : List ℕ) (limit k : ℕ) → 1 ≤ limit → Held C a s → effect_of s ≡ EndsIn (stepped.Fault k) s → HasEnded C limit s xs (machine.Fault k) a
 faults C a s xs limit k le h e = faults_like C a a s s xs limit k le h h (λ q. refl) e
 
+-- ---- a word in register 9
+
+-- in at most so many steps the machine comes to an address, with a word in register 9 and all else as it was
+pub record InNine (C : Console) (limit : ℕ) (s : State) (xs : List ℕ) (pc : ℕ) (a : Addr) (v : ℕ) : Type 0 where
+  pub steps : ℕ
+  pub to : State
+  pub by : Reaches steps s xs [] to xs
+  pub at : to.counter ≡ pc
+  pub held : Held C a to
+  pub nine : register_of to 9 ≡ v
+  pub few : steps ≤ limit
+
+-- or the run has ended, where there is no word
+abbrev pub MakesNine : Console → ℕ → State → List ℕ → ℕ → Addr → Option ℕ → Type 0
+MakesNine C limit s xs pc a None = HasEnded C limit s xs (machine.Fault 6) a
+MakesNine C limit s xs pc a (Some v) = InNine C limit s xs pc a v
+
+pub made_later : (C : Console) (j n limit : ℕ) (s t : State) (xs : List ℕ) (pc : ℕ) (a : Addr) (z : Option ℕ) → Reaches j s xs [] t xs → j + n ≤ limit → MakesNine C n t xs pc a z → MakesNine C limit s xs pc a z
+made_later C j n limit s t xs pc a None r le f = later C j n limit s t xs pc a (Ends (machine.Fault 6)) r le f
+made_later C j n limit s t xs pc a (Some v) r le f = record { steps = j + f.steps; to = f.to; by = reaches_on j f.steps s t f.to xs xs xs [] [] r f.by; at = f.at; held = f.held; nine = f.nine; few = omega (arith, f.few) }
+
+-- the instruction that makes it
+pub made_last : (C : Console) (a : Addr) (s : State) (xs : List ℕ) (next p : ℕ) (z : Option ℕ) → Held C a s → effect_of s ≡ taking 9 z next s → turn s ≡ Other → next ≡ p → MakesNine C 1 s xs p a z
+made_last C a s xs next p None h e o k = faults C a s xs 1 6 (omega arith) h e
+made_last C a s xs next p (Some v) h e o k = record {
+  steps = 1;
+  to = took C next 9 v s;
+  by = reaches_went s (took C next 9 v s) xs e o;
+  at = k;
+  held = scratch C a s next 9 v (omega arith) (omega arith) h;
+  nine = reg_same C s 9 v (omega (arith, h.sixteen));
+  few = omega arith;
+}
+
 -- operators that work on one word have an answer
 one_some : (o : OneOf) (v : ℕ) → IsPlainOne o → (w : ℕ) × (one_of o v ≡ Some w)
 one_some PUSH v ok = absurd ok
@@ -282,6 +316,27 @@ module _ (C : Console) (address : List ℕ → ℕ) (W : Whole) (F : Frame) (a :
       let eff : effect_of u ≡ taking 9 (two_of o v w) l.0 u = eff0 ∙ ap (λ z. taking 9 (two_of o z (register_of u (hand r 10))) l.0 u) first ∙ ap (λ z. taking 9 (two_of o v z) l.0 u) i.is in
       later C 1 3 4 s u1 xs p a (computed F t (two_of o v w) xs a) (fetches_so C F address a s xs pc q 9 n room gq (omega arith) h e k.1) (omega arith)
       (later C i.steps 2 3 u1 u xs p a (computed F t (two_of o v w) xs a) i.by (let z = i.few in omega (arith, z)) (computed_at u xs l.0 p (two_of o v w) t gt i.held eff (line_turn C a u d.0 (instr.Two o 9 (src.Reg (hand r 10))) l.0 i.held i.at l.1 (omega arith, hand_fits r 10 (omega arith), omega arith)) l.2))
+
+  -- the same where its word stays there
+  pub both_at : (s : State) (xs : List ℕ) (pc p : ℕ) (o : TwoOf) (q r : Where) → Good F q → Good F r → Held C a s → s.counter ≡ pc → Here pc (fetches F q 9 ∷ (brings F r 10 ++ item.Op (instr.Two o 9 (src.Reg (hand r 10))) ∷ [])) p →
+      MakesNine C 3 s xs p a (two_of o (word_of F q a) (word_of F r a))
+  unfolding act
+  both_at s xs pc p o q r gq gr h e k =
+      let v = word_of F q a in
+      let w = word_of F r a in
+      let n = k.0 in
+      let u1 = took C n 9 v s in
+      let h1 = scratch C a s n 9 v (omega arith) (omega arith) h in
+      let d = parts (brings F r 10) (item.Op (instr.Two o 9 (src.Reg (hand r 10))) ∷ []) n p k.2 in
+      let i = brings_at C F address a u1 xs n d.0 r 10 room gr (omega arith) (omega arith) h1 refl d.1 in
+      let u = i.to in
+      let l = d.2 in
+      let first : register_of u 9 ≡ v = i.others 9 (omega arith) ∙ nine s n v h in
+      let eff0 : effect_of u ≡ taking 9 (two_of o (register_of u 9) (register_of u (hand r 10))) l.0 u = line_effect C a u d.0 (instr.Two o 9 (src.Reg (hand r 10))) l.0 i.held i.at l.1 (omega arith, hand_fits r 10 (omega arith), omega arith) in
+      let eff : effect_of u ≡ taking 9 (two_of o v w) l.0 u = eff0 ∙ ap (λ z. taking 9 (two_of o z (register_of u (hand r 10))) l.0 u) first ∙ ap (λ z. taking 9 (two_of o v z) l.0 u) i.is in
+      made_later C 1 2 3 s u1 xs p a (two_of o v w) (fetches_so C F address a s xs pc q 9 n room gq (omega arith) h e k.1) (omega arith)
+      (made_later C i.steps 1 2 u1 u xs p a (two_of o v w) i.by (let z = i.few in omega (arith, z))
+      (made_last C a u xs l.0 p (two_of o v w) i.held eff (line_turn C a u d.0 (instr.Two o 9 (src.Reg (hand r 10))) l.0 i.held i.at l.1 (omega arith, hand_fits r 10 (omega arith), omega arith)) l.2))
 
   -- with its words the other way round, where they stand so
   turned_at : (s : State) (xs : List ℕ) (pc p : ℕ) (o : TwoOf) (u : Option TwoOf) (t q r : Where) → TurnsTo o u → Good F t → Good F q → Good F r → Held C a s → s.counter ≡ pc → Here pc (turned_or_apart F o u t q r) p →

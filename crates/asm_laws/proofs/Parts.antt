@@ -62,7 +62,7 @@ use Rattle.asm_laws.proofs.UsedStep.{address_with, computed_follows, loaded_foll
 use Rattle.asm_laws.proofs.InOneStep.{both, twice, Sums, sums, lea_follows, load_follows, Copies, copies, Stepped, step_is, two_copied, step_copied, load_copied}
 use Rattle.asm_laws.specs.Holds.{Setting, sizes, Named, Fits, Ctx, Stands}
 use Rattle.asm_laws.specs.Acting.{Holds, DoesAs, Fitting, FrontFits}
-use Rattle.asm_laws.specs.Calling.{Mach, Given, lang, holder, GivingAt, shapes}
+use Rattle.asm_laws.specs.Calling.{Mach, Given, ExitAt, lang, holder, GivingAt, shapes}
 use Rattle.asm_laws.proofs.First.{good, room, word_stands}
 use Rattle.asm_laws.proofs.Ops.{acts}
 
@@ -86,19 +86,19 @@ unfolding act
 when_effect m r to next v is = rw is refl
 
 -- the machine stands at an address, by a jump or without one
-record Gone (C : Console) (a : Addr) (m : machine.State) (xs : List ℕ) (to : ℕ) : Type 0 where
-  steps : ℕ
-  there : machine.State
-  by : Reaches steps m xs [] there xs
-  at : there.counter ≡ to
-  held : Held C a there
-  nine : register_of there 9 ≡ register_of m 9
-  few : steps ≤ 1
+pub record Gone (C : Console) (a : Addr) (m : machine.State) (xs : List ℕ) (to : ℕ) : Type 0 where
+  pub steps : ℕ
+  pub there : machine.State
+  pub by : Reaches steps m xs [] there xs
+  pub at : there.counter ≡ to
+  pub held : Held C a there
+  pub nine : register_of there 9 ≡ register_of m 9
+  pub few : steps ≤ 1
 
 nine_same : (m : machine.State) (to : ℕ) → register_of (going_to to m) 9 ≡ register_of m 9
 nine_same m to = refl
 
-gone : (C : Console) (a : Addr) (m : machine.State) (xs : List ℕ) (pc to : ℕ) → Held C a m → m.counter ≡ pc → Passes C.words pc to → Gone C a m xs to
+pub gone : (C : Console) (a : Addr) (m : machine.State) (xs : List ℕ) (pc to : ℕ) → Held C a m → m.counter ≡ pc → Passes C.words pc to → Gone C a m xs to
 gone C a m xs pc to h e (inl j) = record { steps = 1; there = going_to to m; by = jump_reaches C a m xs pc to h e j; at = refl; held = moved C a m to h; nine = nine_same m to; few = omega arith }
 gone C a m xs pc to h e (inr q) = record { steps = 0; there = m; by = reaches_here m xs; at = e ∙ q; held = h; nine = refl; few = omega arith }
 
@@ -139,7 +139,7 @@ module _ (S : Setting) (fits : Fits S) where
   abbrev AreLike : Ctx → (ℕ → ℕ) → Addr → Type 0
   AreLike κ registers a = (r : ℕ) → r < (S.whole.frames κ.fn).registers → registers r ≡ a.regs r
 
-  stopped : (κ : Ctx) (s t : State Where) (m : machine.State) (a : Addr) (registers : ℕ → ℕ) (w : ℕ) (f : Ending) (how end : runs.End) → AreLike κ registers a → how ≡ end → Holds S κ t a → t.world.events ≡ s.world.events → t.world.work ≡ s.world.work + w → words.HasEnded C w m s.world.store.answers how (having registers a) → Stopped (holder S) m (begin (holder S) s) t end
+  pub stopped : (κ : Ctx) (s t : State Where) (m : machine.State) (a : Addr) (registers : ℕ → ℕ) (w : ℕ) (f : Ending) (how end : runs.End) → AreLike κ registers a → how ≡ end → Holds S κ t a → t.world.events ≡ s.world.events → t.world.work ≡ s.world.work + w → words.HasEnded C w m s.world.store.answers how (having registers a) → Stopped (holder S) m (begin (holder S) s) t end
   stopped κ s t m a registers w f how end like e h ev wk f1 = record {
     steps = f1.steps;
     made = [];
@@ -828,40 +828,47 @@ module _ (S : Setting) (fits : Fits S) where
       go (Num zero) r = tested κ s m pc py px w py st.0 st.2 h e st.1 (ap (λ v. if v == 0 then py else px) r)
       go (Num (suc v)) r = tested κ s m pc py px w px st.0 st.2 h e st.1 (ap (λ z. if z == 0 then py else px) r ∙ not_zero v py px)
 
-  pub give_sim : (κ : Ctx) (pc : ℕ) (w : Option Where) (s : State Where) (m : machine.State) → GivingAt S κ.fn pc w → m.counter ≡ pc → Mach S κ s m → Came (holder S) m (begin (holder S) s) ((lang S).give w (spent node_weight s)) (S.leaves κ.fn) 0 0 (Given S κ ((lang S).give w (spent node_weight s)))
+  pub give_sim : (κ : Ctx) (pc : ℕ) (w : Option Where) (s : State Where) (m : machine.State) → GivingAt S κ.fn pc w → m.counter ≡ pc → Mach S κ s m →
+      (q : ℕ) × ExitAt S κ.fn q × Came (holder S) m (begin (holder S) s) ((lang S).give w (spent node_weight s)) q 0 0 (Given S κ ((lang S).give w (spent node_weight s)))
   give_sim κ pc None s m st e h =
       let xs = s.world.store.answers in
-      let g = gone C (having h.registers h.words) m xs pc (S.leaves κ.fn) h.held e (subst (λ z. Passes C.words z (S.leaves κ.fn)) (sym st.stands) st.passes) in
-      record {
-        steps = g.steps;
-        made = [];
-        to = g.there;
-        by = g.by;
-        at = g.at;
-        held = record { place = h.place; words = h.words; at = h.at; registers = h.registers; like = h.like; held = g.held; given = tt };
-        events = sym (append-nil s.world.events);
-        cost = let n = g.few in omega (arith, n);
-        many = omega arith;
-      }
+      let g = gone C (having h.registers h.words) m xs pc st.out h.held e (subst (λ z. Passes C.words z st.out) (sym st.stands) st.passes) in (
+        st.out,
+        st.exit,
+        record {
+          steps = g.steps;
+          made = [];
+          to = g.there;
+          by = g.by;
+          at = g.at;
+          held = record { place = h.place; cells = s.cells; words = h.words; at = h.at; registers = h.registers; like = h.like; held = g.held; given = tt };
+          events = sym (append-nil s.world.events);
+          cost = let n = g.few in omega (arith, n);
+          many = omega arith;
+        },
+      )
   give_sim κ pc (Some p) s m st e h =
       let F = Of κ in
       let xs = s.world.store.answers in
-      let out = S.leaves κ.fn in
+      let out = st.out in
       let g = st.stands in
       let real = having h.registers h.words in
       let v = word_of F p real in
       let u = took C g.0 9 v m in
       let hu = scratch C real m g.0 9 v (omega arith) (omega arith) h.held in
       let on = gone C real u xs g.0 out hu refl (subst (λ z. Passes C.words z out) (sym g.2) st.passes) in
-      let nine : register_of on.there 9 ≡ v = on.nine ∙ reg_same C m 9 v (omega (arith, h.held.sixteen)) in
-      record {
-        steps = 1 + on.steps;
-        made = [];
-        to = on.there;
-        by = reaches_on 1 on.steps m u on.there xs xs xs [] [] (fetches_so C F S.address real m xs pc p 9 g.0 (real_room κ s m h) (good S fits κ p st.named.0) (omega arith) h.held e g.1) on.by;
-        at = on.at;
-        held = record { place = h.place; words = h.words; at = h.at; registers = h.registers; like = h.like; held = on.held; given = subst (λ z. Stands (length s.world.store.objects) h.place (s.cells p) z) (sym (nine ∙ same_word κ s m h p st.stays.0)) (word_stands S fits κ s.world.store s.cells h.place h.words p st.named.0 h.at) };
-        events = sym (append-nil s.world.events);
-        cost = let n = on.few in omega (arith, n);
-        many = omega arith;
-      }
+      let nine : register_of on.there 9 ≡ v = on.nine ∙ reg_same C m 9 v (omega (arith, h.held.sixteen)) in (
+        out,
+        st.exit,
+        record {
+          steps = 1 + on.steps;
+          made = [];
+          to = on.there;
+          by = reaches_on 1 on.steps m u on.there xs xs xs [] [] (fetches_so C F S.address real m xs pc p 9 g.0 (real_room κ s m h) (good S fits κ p st.named.0) (omega arith) h.held e g.1) on.by;
+          at = on.at;
+          held = record { place = h.place; cells = s.cells; words = h.words; at = h.at; registers = h.registers; like = h.like; held = on.held; given = subst (λ z. Stands (length s.world.store.objects) h.place (s.cells p) z) (sym (nine ∙ same_word κ s m h p st.stays.0)) (word_stands S fits κ s.world.store s.cells h.place h.words p st.named.0 h.at) };
+          events = sym (append-nil s.world.events);
+          cost = let n = on.few in omega (arith, n);
+          many = omega arith;
+        },
+      )

@@ -23,7 +23,7 @@ use Rattle.asm_laws.specs.Addresses.{IsPlainOne}
 use Rattle.asm_laws.specs.Standing.{Stand}
 use Rattle.asm_laws.specs.Holds.{Setting, Named, depth_of}
 use Rattle.asm_laws.specs.Acting.{Fitting, FrontFits}
-use Rattle.asm_laws.specs.Calling.{Callable, shapes}
+use Rattle.asm_laws.specs.Calling.{Callable, MadeAt, shapes}
 use Rattle.asm_laws.specs.Linked.{Linked, Plan, setting}
 use Rattle.asm_laws.specs.Program.{items_at, ProgramAt, Sound, Program}
 use Rattle.asm_laws.proofs.Opening.{opens}
@@ -88,9 +88,14 @@ module _ (S : Setting) (boot rest : ℕ) (card : Option (List ℕ)) (ok : IsCard
   onward : (f : ℕ) (o : OpT Where) (c : NodesT Where) (more : ℕ) → more ≡ group_more S.whole (S.whole.frames f) o c → Sparing (Number f) (Do o c) zero → Sparing (Number f) c more
   onward f o c more e sp = subst (λ k. Sparing (Number f) c k) (sym e) (spares_behind S f S.whole (S.whole.frames f) o c sp)
 
+  -- an operator whose word is given back
+  made_there : (f : ℕ) → Sound S f → (bs : List Bool) (o : OpT Where) (c : NodesT Where) (pc : ℕ) → AreNodes S.code (length (S.locals f)) bs (Do o c) → Names (Named S f) (Do o c) → Sparing (Number f) (Do o c) zero → (items_at S).made f pc o c → MadeAt S f pc o c
+  made_there f so bs o c pc n m sp h = record { more = h.0; made = h.1; is = h.2; fits = fitting f so o c n.0 m.0; front = front_fits f so bs c h.0 n.1 m.1; spares = sp; then = h.3; stands = h.4; out = h.5; passes = h.6; exit = h.7 }
+
   at_of : (f : ℕ) → Sound S f → Calls f → (ls : List Bounds) (bs : List Bool) (c : NodesT Where) (done pc e : ℕ) → AreNodes S.code (length (S.locals f)) bs c → Names (Named S f) c → Sparing (Number f) c done → Past (items_at S) f ls pc c done e → Past (shapes S) f ls pc c done e
   at_of f so cs ls bs Stop done pc e n m sp at = at
-  at_of f so cs ls bs (Do o c) zero pc e n m sp at = (at.0, at.1, (fitting f so o c n.0 m.0, front_fits f so bs c at.0 n.1 m.1, at.2.0, at.2.1, sp), at_of f so cs ls bs c at.0 at.1 e n.1 m.1 (onward f o c at.0 at.2.1 sp) at.3)
+  at_of f so cs ls bs (Do o c) zero pc e n m sp (inl h) = inl (made_there f so bs o c pc n m sp h)
+  at_of f so cs ls bs (Do o c) zero pc e n m sp (inr at) = inr (at.0, at.1, (fitting f so o c n.0 m.0, front_fits f so bs c at.0 n.1 m.1, at.2.0, at.2.1, sp), at_of f so cs ls bs c at.0 at.1 e n.1 m.1 (onward f o c at.0 at.2.1 sp) at.3)
   at_of f so cs ls bs (Do o c) (suc k) pc e n m sp at = at_of f so cs ls bs c k pc e n.1 m.1 sp at
   at_of f so cs ls bs (Call t g args c) done pc e n m sp at =
       let i = mapped_from (λ h. length h.params) (slice_get S.code.functions g) (length args) n.0 in
@@ -115,12 +120,13 @@ module _ (S : Setting) (boot rest : ℕ) (card : Option (List ℕ)) (ok : IsCard
   at_of f so cs ls bs (Again k c) done pc e n m sp at = (at.0, (at.1.0, at_of f so cs ls bs c zero at.1.0 e n.1 m sp at.1.1))
   at_of f so cs ls bs (Return w c) done pc e n m sp at =
       let d = halves (Number f) (are_others (maybe w)) (spares c zero) sp in
-      (record { named = m.0.0; stays = all_stay S f (Number f) (maybe w) d.0 m.0.0; then = at.0.0; stands = at.0.1; passes = at.0.2 }, (at.1.0, at_of f so cs ls bs c zero at.1.0 e n m.1 d.1 at.1.1))
+      (record { named = m.0.0; stays = all_stay S f (Number f) (maybe w) d.0 m.0.0; then = at.0.0; stands = at.0.1; out = at.0.2; passes = at.0.3; exit = at.0.4 }, (at.1.0, at_of f so cs ls bs c zero at.1.0 e n m.1 d.1 at.1.1))
 
   -- the start calls none
   at_quiet : (f : ℕ) → Sound S f → (ls : List Bounds) (bs : List Bool) (c : NodesT Where) (done pc e : ℕ) → AreNodes S.code (length (S.locals f)) bs c → Names (Named S f) c → CallsNone c → Sparing (Number f) c done → Past (items_at S) f ls pc c done e → Past (shapes S) f ls pc c done e
   at_quiet f so ls bs Stop done pc e n m q sp at = at
-  at_quiet f so ls bs (Do o c) zero pc e n m q sp at = (at.0, at.1, (fitting f so o c n.0 m.0, front_fits f so bs c at.0 n.1 m.1, at.2.0, at.2.1, sp), at_quiet f so ls bs c at.0 at.1 e n.1 m.1 q (onward f o c at.0 at.2.1 sp) at.3)
+  at_quiet f so ls bs (Do o c) zero pc e n m q sp (inl h) = inl (made_there f so bs o c pc n m sp h)
+  at_quiet f so ls bs (Do o c) zero pc e n m q sp (inr at) = inr (at.0, at.1, (fitting f so o c n.0 m.0, front_fits f so bs c at.0 n.1 m.1, at.2.0, at.2.1, sp), at_quiet f so ls bs c at.0 at.1 e n.1 m.1 q (onward f o c at.0 at.2.1 sp) at.3)
   at_quiet f so ls bs (Do o c) (suc k) pc e n m q sp at = at_quiet f so ls bs c k pc e n.1 m.1 q sp at
   at_quiet f so ls bs (Call t g args c) done pc e n m q sp at = absurd q
   at_quiet f so ls bs (Choose w x y c) done pc e n m q sp at =
@@ -141,7 +147,7 @@ module _ (S : Setting) (boot rest : ℕ) (card : Option (List ℕ)) (ok : IsCard
   at_quiet f so ls bs (Again k c) done pc e n m q sp at = (at.0, (at.1.0, at_quiet f so ls bs c zero at.1.0 e n.1 m q sp at.1.1))
   at_quiet f so ls bs (Return w c) done pc e n m q sp at =
       let d = halves (Number f) (are_others (maybe w)) (spares c zero) sp in
-      (record { named = m.0.0; stays = all_stay S f (Number f) (maybe w) d.0 m.0.0; then = at.0.0; stands = at.0.1; passes = at.0.2 }, (at.1.0, at_quiet f so ls bs c zero at.1.0 e n m.1 q d.1 at.1.1))
+      (record { named = m.0.0; stays = all_stay S f (Number f) (maybe w) d.0 m.0.0; then = at.0.0; stands = at.0.1; out = at.0.2; passes = at.0.3; exit = at.0.4 }, (at.1.0, at_quiet f so ls bs c zero at.1.0 e n m.1 q d.1 at.1.1))
 
   pub linked : ProgramAt S boot → Linked S card boot rest
   linked at = record {

@@ -10,10 +10,10 @@ use Rattle.mid_code.specs.declared.placed.Where.TheVariants.{Reg}
 use Rattle.mid_code.specs.Code.{OpT, ConstO, NullO, MoveO, OneO, TwoO, GlobalO, LocalO, LiteralO, CardO, StepO, ApartO, PtrTestO, LoadO, StoreO, FreshO, EndO, InO, OutO, WaitO, HaltO, NodesT, Stop, Do, Call, Choose, Block, Loop, Leave, Again, Return, FunctionT, CodeT}
 use Rattle.mid_code.specs.Invariants.{AreNodes, AllOf}
 use Rattle.asm_laws.specs.Names.{function_label}
-use Rattle.asm_laws.specs.Operations.{Frame, Whole, hand, brings, op_items, word_put, with_more, in_one, one_or_more, more_of, call_items, args_items, keeps_some, start_frame, literals_items, put_item, puts_items, led_items, led_more, group_items, group_more}
+use Rattle.asm_laws.specs.Operations.{Frame, Whole, hand, brings, op_items, word_put, with_more, in_one, one_or_more, more_of, call_items, args_items, keeps_some, start_frame, literals_items, put_item, puts_items, led_items, led_more, group_items, group_more, giving_left, given_first, made_both, made_with, first_made, made_of, made_or, made_more, next_items, next_more}
 use Rattle.asm_laws.specs.declared.behind.Behind.{Behind}
 use Rattle.asm_laws.specs.declared.behind.Behind.TheVariants.{Other, End, Turn}
-use Rattle.asm_laws.specs.inner.Emitted.{labels, enclosing, jump, choice, alone, left_to, ends, is_stop, enclosed, returning, items_past, code_items, function_items, functions_items, call_item, exit_items, closing_items, program_items, inside, is_end, again, looped, is_tested, part_items, test_items, jump_when}
+use Rattle.asm_laws.specs.inner.Emitted.{labels, enclosing, jump, choice, alone, left_to, ends, is_stop, enclosed, left_by, items_past, code_items, function_items, functions_items, call_item, exit_items, closing_items, program_items, inside, is_end, again, looped, is_tested, part_items, test_items, jump_when}
 use Rattle.asm_laws.specs.Framing.{frame_made}
 use Rattle.asm_laws.specs.Copies.{lead, copy_at, copy_or}
 use Rattle.asm_laws.proofs.Known.{function_there}
@@ -85,16 +85,26 @@ more_same W fr F o c = go (lead (Do o c))
     go None = ap more_of (in_one_same W fr F o c)
     go (Some k) = refl
 
+made_same : (W : Whole) (fr : ℕ → Frame) (F : Frame) (o : OpT Where) (c : NodesT Where) → made_of (framed W fr) F o c ≡ made_of W F o c
+unfolding made_of
+made_same W fr F o c = ap (λ s. first_made (made_both o (given_first c)) (made_with F s c)) (put_same W fr o)
+
+next_same : (W : Whole) (fr : ℕ → Frame) (F : Frame) (o : OpT Where) (c : NodesT Where) → next_items (framed W fr) F o c ≡ next_items W F o c
+next_same W fr F o c = let m = made_same W fr F o c in let g = group_same W fr F o c in λ i. made_or F (m i) (g i)
+
+next_more_same : (W : Whole) (fr : ℕ → Frame) (F : Frame) (o : OpT Where) (c : NodesT Where) → next_more (framed W fr) F o c ≡ next_more W F o c
+next_more_same W fr F o c = let m = made_same W fr F o c in let g = more_same W fr F o c in λ i. made_more (m i) (g i)
+
 module _ (x : CodeT Where) (W : Whole) (fr : ℕ → Frame) (same : (g : ℕ) → g < length x.functions → fr g ≡ W.frames g) where
   call_same : (F : Frame) (t : Option Where) (g : ℕ) (args : List Where) → g < length x.functions → call_items (framed W fr) F t g args ≡ call_items W F t g args
   call_same F t g args lt = ap (λ G. args_items F G (W.params g) args ++ call_item W g ∷ keeps_some F t) (same g lt)
 
-  test_same : (m : ℕ) (F : Frame) (out to : ℕ) (c : NodesT Where) (done : ℕ) (bs : List Bool) → AreNodes x m bs c → test_items (framed W fr) F out to c done ≡ test_items W F out to c done
+  test_same : (m : ℕ) (F : Frame) (out : Option ℕ) (to : ℕ) (c : NodesT Where) (done : ℕ) (bs : List Bool) → AreNodes x m bs c → test_items (framed W fr) F out to c done ≡ test_items W F out to c done
   test_same m F out to (Do o c) zero bs ok =
-      let g = group_same W fr F o c in
-      let k = more_same W fr F o c in
-      let rest = test_same m F out to c (group_more W F o c) bs ok.1 in
-      (λ i. g i ++ test_items (framed W fr) F out to c (k i)) ∙ ap (λ y. group_items W F o c ++ y) rest
+      let g = next_same W fr F o c in
+      let k = next_more_same W fr F o c in
+      let rest = test_same m F out to c (next_more W F o c) bs ok.1 in
+      (λ i. g i ++ test_items (framed W fr) F out to c (k i)) ∙ ap (λ y. next_items W F o c ++ y) rest
   test_same m F out to (Do o c) (suc done) bs ok = test_same m F out to c done bs ok.1
   test_same m F out to (Choose p a b c) done bs ok = ap (λ y. brings F p 9 ++ jump_when (hand p 9) to ∷ y) (test_same m F out to c 0 bs ok.2)
   test_same m F out to Stop done bs ok = refl
@@ -103,16 +113,16 @@ module _ (x : CodeT Where) (W : Whole) (fr : ℕ → Frame) (same : (g : ℕ) �
   test_same m F out to (Loop b c) done bs ok = test_same m F out to c 0 bs ok.1
   test_same m F out to (Leave k c) done bs ok = test_same m F out to c 0 bs ok.1
   test_same m F out to (Again k c) done bs ok = test_same m F out to c 0 bs ok.1
-  test_same m F out to (Return p c) done bs ok = test_same m F out to c 0 bs ok
+  test_same m F out to (Return p c) done bs ok = ap (λ y. giving_left F p done ++ y) (test_same m F out to c 0 bs ok)
 
   mutual
-    past_same : (m : ℕ) (F : Frame) (out : ℕ) (c : NodesT Where) (done : ℕ) (last : Behind) (bs : List Bool) (ls : List ℕ) (n : ℕ) → AreNodes x m bs c → items_past (framed W fr) F out last ls n c done ≡ items_past W F out last ls n c done
+    past_same : (m : ℕ) (F : Frame) (out : Option ℕ) (c : NodesT Where) (done : ℕ) (last : Behind) (bs : List Bool) (ls : List ℕ) (n : ℕ) → AreNodes x m bs c → items_past (framed W fr) F out last ls n c done ≡ items_past W F out last ls n c done
     past_same m F out Stop done last bs ls n ok = refl
     past_same m F out (Do o c) zero last bs ls n ok =
-        let g = group_same W fr F o c in
-        let k = more_same W fr F o c in
-        let rest = past_same m F out c (group_more W F o c) last bs ls n ok.1 in
-        (λ i. g i ++ items_past (framed W fr) F out last ls n c (k i)) ∙ ap (λ y. group_items W F o c ++ y) rest
+        let g = next_same W fr F o c in
+        let k = next_more_same W fr F o c in
+        let rest = past_same m F out c (next_more W F o c) last bs ls n ok.1 in
+        (λ i. g i ++ items_past (framed W fr) F out last ls n c (k i)) ∙ ap (λ y. next_items W F o c ++ y) rest
     past_same m F out (Do o c) (suc done) last bs ls n ok = past_same m F out c done last bs ls n ok.1
     past_same m F out (Call t g args c) done last bs ls n ok = let p = call_same F t g args (function_there x g (length args) ok.0) in let q = past_same m F out c 0 last bs ls n ok.1 in λ i. p i ++ q i
     past_same m F out (Choose p a b c) done last bs ls n ok =
@@ -130,9 +140,9 @@ module _ (x : CodeT Where) (W : Whole) (fr : ℕ → Frame) (same : (g : ℕ) �
         λ i. copy_or (copy_at done b) (looped (is_tested b) n (p i) (part i) (test i)) ++ q i
     past_same m F out (Leave k c) done last bs ls n ok = ap (λ y. jump (add (enclosing ls k) 1) ∷ y) (past_same m F out c 0 last bs ls n ok.1)
     past_same m F out (Again k c) done last bs ls n ok = ap (λ y. again ls k (ends last c) ++ y) (past_same m F out c 0 last bs ls n ok.1)
-    past_same m F out (Return p c) done last bs ls n ok = ap (λ y. returning F p out (is_end (ends last c)) ++ y) (past_same m F out c 0 last bs ls n ok)
+    past_same m F out (Return p c) done last bs ls n ok = ap (λ y. giving_left F p done ++ (left_by F out (is_end (ends last c)) ++ y)) (past_same m F out c 0 last bs ls n ok)
 
-    part_same : (m : ℕ) (F : Frame) (out : ℕ) (c : NodesT Where) (bs : List Bool) (ls : List ℕ) (n : ℕ) → AreNodes x m bs c → part_items (framed W fr) F out ls n c ≡ part_items W F out ls n c
+    part_same : (m : ℕ) (F : Frame) (out : Option ℕ) (c : NodesT Where) (bs : List Bool) (ls : List ℕ) (n : ℕ) → AreNodes x m bs c → part_items (framed W fr) F out ls n c ≡ part_items W F out ls n c
     part_same m F out (Do o c) bs ls n ok = part_same m F out c bs ls n ok.1
     part_same m F out (Choose p a b c) bs ls n ok = past_same m F out a 0 Turn bs ls (n + 1) ok.0
     part_same m F out Stop bs ls n ok = refl
@@ -143,7 +153,7 @@ module _ (x : CodeT Where) (W : Whole) (fr : ℕ → Frame) (same : (g : ℕ) �
     part_same m F out (Again k c) bs ls n ok = refl
     part_same m F out (Return p c) bs ls n ok = refl
 
-  pub code_same : (m : ℕ) (F : Frame) (out : ℕ) (c : NodesT Where) (bs : List Bool) (ls : List ℕ) (n : ℕ) → AreNodes x m bs c → code_items (framed W fr) F out ls n c ≡ code_items W F out ls n c
+  pub code_same : (m : ℕ) (F : Frame) (out : Option ℕ) (c : NodesT Where) (bs : List Bool) (ls : List ℕ) (n : ℕ) → AreNodes x m bs c → code_items (framed W fr) F out ls n c ≡ code_items W F out ls n c
   code_same m F out c bs ls n ok = past_same m F out c 0 End bs ls n ok
 
   abbrev own_of : (f n : ℕ) → Frame → List AsmItem → List AsmItem
@@ -151,7 +161,7 @@ module _ (x : CodeT Where) (W : Whole) (fr : ℕ → Frame) (same : (g : ℕ) �
 
   function_same : (f n : ℕ) (g : FunctionT Where) → f < length x.functions → AreNodes x (length g.locals) [] g.body → function_items (framed W fr) f n g.body ≡ function_items W f n g.body
   function_same f n g lt ok =
-      ap (λ F. own_of f n F (code_items (framed W fr) F n [] (n + 1) g.body)) (same f lt) ∙ ap (own_of f n (W.frames f)) (code_same (length g.locals) (W.frames f) n g.body [] [] (n + 1) ok)
+      ap (λ F. own_of f n F (code_items (framed W fr) F None [] (n + 1) g.body)) (same f lt) ∙ ap (own_of f n (W.frames f)) (code_same (length g.locals) (W.frames f) None g.body [] [] (n + 1) ok)
 
   functions_same : (f n : ℕ) (gs : List (FunctionT Where)) → f + length gs ≡ length x.functions → AllOf (λ g. AreNodes x (length g.locals) [] g.body) gs → functions_items (framed W fr) f n gs ≡ functions_items W f n gs
   functions_same f n [] count ok = refl
@@ -160,6 +170,6 @@ module _ (x : CodeT Where) (W : Whole) (fr : ℕ → Frame) (same : (g : ℕ) �
 
   pub program_same : AreNodes x (length x.start.locals) [] x.start.body → AllOf (λ g. AreNodes x (length g.locals) [] g.body) x.functions → program_items (framed W fr) x ≡ program_items W x
   program_same ok each =
-      let p = code_same (length x.start.locals) start_frame 0 x.start.body [] [] 1 ok in
+      let p = code_same (length x.start.locals) start_frame (Some 0) x.start.body [] [] 1 ok in
       let q = functions_same 0 (1 + labels x.start.body) x.functions (omega arith) each in
       λ i. (p i ++ closing_items W x.main) ++ (q i ++ literals_items 0 x.literals)

@@ -27,17 +27,17 @@ use Rattle.asm_laws.specs.Names.{literal_label, function_label}
 use Rattle.kit_base.specs.Word.{add}
 use Rattle.asm_laws.specs.Operations as operations
 use Rattle.asm_laws.specs.Moves.{Move, in_order}
-use Rattle.asm_laws.specs.Operations.{Frame, Whole, arg_word, slot_word, local_word, fetches, keeps, keeps_some, hand, brings, takes, aim, lays, moves, changes, is_direct, in_place, apart, is_turned, turned_or_apart, computes, slot_arg, slot_args, moved_items, args_items, call_items, op_items, in_one, one_or_more, more_of, giving, start_frame, literal_items, literals_items, puts_items, put_item, group_items, group_more, word_put}
+use Rattle.asm_laws.specs.Operations.{Frame, Whole, arg_word, slot_word, local_word, fetches, keeps, keeps_some, hand, brings, takes, aim, lays, moves, changes, is_direct, in_place, apart, is_turned, turned_or_apart, computes, slot_arg, slot_args, moved_items, args_items, call_items, op_items, in_one, one_or_more, more_of, giving, start_frame, literal_items, literals_items, puts_items, put_item, group_items, giving_left, next_items, next_more, word_put}
 use Rattle.asm_laws.specs.Pieces.{register, is_in, turned}
 use Rattle.asm_laws.specs.Framing.{frame_made, frame_gone}
 use Rattle.asm_laws.specs.declared.behind.Behind.{Behind}
 use Rattle.asm_laws.specs.declared.behind.Behind.TheVariants.{Other, End, Turn}
-use Rattle.asm_laws.specs.inner.Emitted.{labels, enclosing, jump, jump_unless, mark, choice, one_way, alone, left_to, ends, jump_when, is_stop, enclosed, returning, items_past, code_items, entry_items, exit_items, function_items, functions_items, functions_labels, call_item, closing_items, start_items, program_items, labels_of, inside, is_end, is_turn, again, rotated, looped, is_tested, part_items, test_items}
+use Rattle.asm_laws.specs.inner.Emitted.{labels, enclosing, jump, jump_unless, mark, choice, one_way, alone, left_to, ends, jump_when, is_stop, enclosed, leaving, left_by, items_past, code_items, entry_items, exit_items, function_items, functions_items, functions_labels, call_item, closing_items, start_items, program_items, labels_of, inside, is_end, is_turn, again, rotated, looped, is_tested, part_items, test_items}
 use Rattle.asm_laws.proofs.Ordering.{in_order_few}
 use Rattle.asm_laws.specs.declared.copying.Copying.{Copying}
 use Rattle.asm_laws.specs.Copies.{copy_of, copy_at, items_from, copy_or}
 use Rattle.asm_laws.proofs.Leads.{copy_turn, fill_turn, copy_is, lead_is, puts_elim}
-use Rattle.asm_laws.proofs.InOne.{TakesWord, one_or_more_is, group_is}
+use Rattle.asm_laws.proofs.InOne.{TakesWord, one_or_more_is, group_is, next_is}
 use Rattle.asm_laws.proofs.Walked.{total_append, total_one, total_none, total_more}
 
 abbrev size : List AsmItem → ℕ
@@ -141,6 +141,12 @@ turned_size F o (Some u) t p q = either_size (is_turned t p q) (in_place F u (ai
 computes_size : (F : Frame) (o : TwoOf) (t p q : Where) → size (computes F o t p q) ≤ 7
 computes_size F o t p q = either_size (is_direct t q) (in_place F o (aim t) p q) (turned_or_apart F o (turned o) t p q) (in_place_size F o (aim t) p q) (turned_size F o (turned o) t p q)
 
+both_size : (F : Frame) (o : TwoOf) (a b : Where) (n : ℕ) → n ≡ 8 → size (fetches F a 9 ∷ (brings F b 10 ++ item.Op (instr.Two o 9 (src.Reg (hand b 10))) ∷ [])) ≤ n
+both_size F o a b n e =
+    let x = item.Op (instr.Two o 9 (src.Reg (hand b 10))) in
+    let s = brought_size F b 10 1 (x ∷ []) (one_item x 1 (omega arith)) in
+    omega (arith, e, s, total_more (fetches F a 9) (brings F b 10 ++ x ∷ []), fetch_size F a 9)
+
 pub op_size : (W : Whole) (F : Frame) (o : OpT Where) → size (op_items W F o) ≤ op_weight o
 unfolding op_items
 op_size W F (ConstO t n) = let r = laid_size F t (item.Op (instr.Mov (RegImm (aim t) (Left n)))) 2 (omega arith) in omega (arith, r)
@@ -215,6 +221,15 @@ group_size W F o c = group_is W F (λ xs. size xs ≤ op_weight o) o c (one_size
     let s = puts_size W (Do o c) k in
     let few = h.few in
     omega (arith, w, s, few))
+
+next_size : (W : Whole) (F : Frame) (o : OpT Where) (c : NodesT Where) → size (next_items W F o c) ≤ op_weight o
+next_size W F o c =
+    next_is W F (λ xs. size xs ≤ op_weight o) (λ v. op_weight o ≡ 8) o c (λ t n e. (ap op_weight e, ap op_weight e, λ m. ap op_weight e)) (λ t k e. (ap op_weight e, ap op_weight e, λ m. ap op_weight e))
+    (λ i h. let t = taking_size (op_weight o) i h in let z = one_item (item.Op i) 2 t.1 in omega (arith, z, t.0)) (
+      λ p r i lt h. (let t = taking_size (op_weight o) i h in let z = two_items (fetches F p r) (item.Op i) 2 2 (fetch_size F p r) t.1 in omega (arith, z, t.0)),
+      λ r q i lr lq h. (let t = taking_size (op_weight o) i h in let z = two_items (item.Op (instr.Two IADD r (src.Reg q))) (item.Op i) 2 2 (omega arith) t.1 in omega (arith, z, t.0)),
+    )
+    (λ u t a b e. both_size F u a b (op_weight o) (ap op_weight e)) (group_size W F o c)
 
 -- a block move takes fewer words than its loop weighs
 more_size : (x : AsmItem) (xs : List AsmItem) (k n : ℕ) → item_size x ≤ k → size xs ≤ n → size (x ∷ xs) ≤ k + n
@@ -320,9 +335,24 @@ enclosed_size n w a le =
     let x3 = one_item (mark (n + 1)) 0 (omega arith) in
     omega (arith, x1, x2, x3, le)
 
-returning_size : (F : Frame) (p : Option Where) (out : ℕ) (last : Bool) → size (returning F p out last) ≤ 8
-returning_size F p out true = let x = total_append (giving F p) [] in omega (arith, x, total_none, giving_size F p)
-returning_size F p out false = let x = total_append (giving F p) (jump out ∷ []) in let r = one_item (jump out) 2 (omega arith) in omega (arith, x, r, giving_size F p)
+gone_size : (n : ℕ) → size (frame_gone n) ≤ 3
+gone_size n = go (n == 0)
+  where
+    go : (b : Bool) → size (cond b (item.Op (instr.Plain RET) ∷ []) (item.Op (instr.Two IADD 15 (src.Imm (Left n))) ∷ item.Op (instr.Plain RET) ∷ [])) ≤ 3
+    go true = one_item (item.Op (instr.Plain RET)) 3 (omega arith)
+    go false = two_items (item.Op (instr.Two IADD 15 (src.Imm (Left n)))) (item.Op (instr.Plain RET)) 2 1 (omega arith) (omega arith)
+
+leaving_size : (F : Frame) (out : Option ℕ) → size (leaving F out) ≤ 3
+leaving_size F None = gone_size F.size
+leaving_size F (Some n) = one_item (jump n) 3 (omega arith)
+
+left_size : (F : Frame) (p : Option Where) (done : ℕ) → size (giving_left F p done) ≤ 2
+left_size F p zero = giving_size F p
+left_size F p (suc k) = omega (arith, total_none)
+
+left_by_size : (F : Frame) (out : Option ℕ) (last : Bool) → size (left_by F out last) ≤ 3
+left_by_size F out true = omega (arith, total_none)
+left_by_size F out false = leaving_size F out
 
 jump_size : (n : ℕ) → item_size (jump n) ≤ 2
 jump_size n = omega arith
@@ -360,13 +390,13 @@ test_size F p to xs =
 abbrev pub Counts : CodeT Where → Whole → Type 0
 Counts x W = (g n : ℕ) → parameter_count x g ≡ Some n → n ≡ length (W.params g)
 
-module _ (x : CodeT Where) (W : Whole) (counts : Counts x W) (m : ℕ) (F : Frame) (out : ℕ) where
+module _ (x : CodeT Where) (W : Whole) (counts : Counts x W) (m : ℕ) (F : Frame) (out : Option ℕ) where
   tests_size : (c : NodesT Where) (done : ℕ) (bs : List Bool) (to : ℕ) → AreNodes x m bs c → size (test_items W F out to c done) ≤ nodes_weight c
   tests_size Stop done bs to ok = omega (arith, total_none)
   tests_size (Do o c) zero bs to ok =
-      let more = group_more W F o c in
-      let t = total_append (group_items W F o c) (test_items W F out to c more) in
-      omega (arith, t, group_size W F o c, tests_size c more bs to ok.1)
+      let more = next_more W F o c in
+      let t = total_append (next_items W F o c) (test_items W F out to c more) in
+      omega (arith, t, next_size W F o c, tests_size c more bs to ok.1)
   tests_size (Do o c) (suc done) bs to ok = let r = tests_size c done bs to ok.1 in omega (arith, r)
   tests_size (Call t g args c) done bs to ok =
       let s = total_append (call_items W F t g args) (test_items W F out to c 0) in
@@ -376,15 +406,17 @@ module _ (x : CodeT Where) (W : Whole) (counts : Counts x W) (m : ℕ) (F : Fram
   tests_size (Loop b c) done bs to ok = let r = tests_size c 0 bs to ok.1 in omega (arith, r)
   tests_size (Leave k c) done bs to ok = let r = tests_size c 0 bs to ok.1 in omega (arith, r)
   tests_size (Again k c) done bs to ok = let r = tests_size c 0 bs to ok.1 in omega (arith, r)
-  tests_size (Return p c) done bs to ok = let r = tests_size c 0 bs to ok in omega (arith, r)
+  tests_size (Return p c) done bs to ok =
+      let s = total_append (giving_left F p done) (test_items W F out to c 0) in
+      omega (arith, s, left_size F p done, tests_size c 0 bs to ok)
 
   mutual
     past_size : (c : NodesT Where) (done : ℕ) (last : Behind) (bs : List Bool) (ls : List ℕ) (n : ℕ) → AreNodes x m bs c → size (items_past W F out last ls n c done) ≤ nodes_weight c
     past_size Stop done last bs ls n ok = omega (arith, total_none)
     past_size (Do o c) zero last bs ls n ok =
-        let more = group_more W F o c in
-        let t = total_append (group_items W F o c) (items_past W F out last ls n c more) in
-        omega (arith, t, group_size W F o c, past_size c more last bs ls n ok.1)
+        let more = next_more W F o c in
+        let t = total_append (next_items W F o c) (items_past W F out last ls n c more) in
+        omega (arith, t, next_size W F o c, past_size c more last bs ls n ok.1)
     past_size (Do o c) (suc done) last bs ls n ok = let r = past_size c done last bs ls n ok.1 in omega (arith, r)
     past_size (Call t g args c) done last bs ls n ok = let s = total_append (call_items W F t g args) (items_past W F out last ls n c 0) in omega (arith, s, call_size W F t g args (counts g (length args) ok.0), past_size c 0 last bs ls n ok.1)
     past_size (Choose p a b c) done last bs ls n ok =
@@ -406,13 +438,18 @@ module _ (x : CodeT Where) (W : Whole) (counts : Counts x W) (m : ℕ) (F : Fram
         omega (arith, s, h, past_size c 0 last bs ls (n + (2 + labels b)) ok.1)
     past_size (Leave k c) done last bs ls n ok = let j = jump_size (add (enclosing ls k) 1) in let s = total_more (jump (add (enclosing ls k) 1)) (items_past W F out last ls n c 0) in omega (arith, s, j, past_size c 0 last bs ls n ok.1)
     past_size (Again k c) done last bs ls n ok = let s = total_append (again ls k (ends last c)) (items_past W F out last ls n c 0) in omega (arith, s, again_size ls k (ends last c), past_size c 0 last bs ls n ok.1)
-    past_size (Return p c) done last bs ls n ok = let s = total_append (returning F p out (is_end (ends last c))) (items_past W F out last ls n c 0) in omega (arith, s, returning_size F p out (is_end (ends last c)), past_size c 0 last bs ls n ok)
+    past_size (Return p c) done last bs ls n ok =
+        let left = left_by F out (is_end (ends last c)) in
+        let rest = items_past W F out last ls n c 0 in
+        let s = total_append (giving_left F p done) (left ++ rest) in
+        let t = total_append left rest in
+        omega (arith, s, t, left_size F p done, left_by_size F out (is_end (ends last c)), past_size c 0 last bs ls n ok)
 
     parts_size : (c : NodesT Where) (done : ℕ) (bs : List Bool) (ls : List ℕ) (n to : ℕ) → AreNodes x m bs c → size (part_items W F out ls n c) + size (test_items W F out to c done) ≤ nodes_weight c
     parts_size (Do o c) zero bs ls n to ok =
-        let more = group_more W F o c in
-        let t = total_append (group_items W F o c) (test_items W F out to c more) in
-        omega (arith, t, group_size W F o c, parts_size c more bs ls n to ok.1)
+        let more = next_more W F o c in
+        let t = total_append (next_items W F o c) (test_items W F out to c more) in
+        omega (arith, t, next_size W F o c, parts_size c more bs ls n to ok.1)
     parts_size (Do o c) (suc done) bs ls n to ok = let r = parts_size c done bs ls n to ok.1 in omega (arith, r)
     parts_size (Choose p a b c) done bs ls n to ok =
         let r = past_size a 0 Turn bs ls (n + 1) ok.0 in
@@ -426,7 +463,9 @@ module _ (x : CodeT Where) (W : Whole) (counts : Counts x W) (m : ℕ) (F : Fram
     parts_size (Loop b c) done bs ls n to ok = let r = tests_size c 0 bs to ok.1 in omega (arith, total_none, r)
     parts_size (Leave k c) done bs ls n to ok = let r = tests_size c 0 bs to ok.1 in omega (arith, total_none, r)
     parts_size (Again k c) done bs ls n to ok = let r = tests_size c 0 bs to ok.1 in omega (arith, total_none, r)
-    parts_size (Return p c) done bs ls n to ok = let r = tests_size c 0 bs to ok in omega (arith, total_none, r)
+    parts_size (Return p c) done bs ls n to ok =
+        let s = total_append (giving_left F p done) (test_items W F out to c 0) in
+        omega (arith, total_none, s, left_size F p done, tests_size c 0 bs to ok)
 
   pub code_size : (c : NodesT Where) (bs : List Bool) (ls : List ℕ) (n : ℕ) → AreNodes x m bs c → size (code_items W F out ls n c) ≤ nodes_weight c
   code_size c bs ls n ok = past_size c 0 End bs ls n ok
@@ -440,13 +479,6 @@ made_size n = go (n == 0)
     go true = omega (arith, total_none)
     go false = one_item (item.Op (instr.Two ISUB 15 (src.Imm (Left n)))) 4 (omega arith)
 
-gone_size : (n : ℕ) → size (frame_gone n) ≤ 3
-gone_size n = go (n == 0)
-  where
-    go : (b : Bool) → size (cond b (item.Op (instr.Plain RET) ∷ []) (item.Op (instr.Two IADD 15 (src.Imm (Left n))) ∷ item.Op (instr.Plain RET) ∷ [])) ≤ 3
-    go true = one_item (item.Op (instr.Plain RET)) 3 (omega arith)
-    go false = two_items (item.Op (instr.Two IADD 15 (src.Imm (Left n)))) (item.Op (instr.Plain RET)) 2 1 (omega arith) (omega arith)
-
 module _ (x : CodeT Where) (W : Whole) (counts : Counts x W) where
   abbrev Sound : FunctionT Where → Type 0
   Sound f = AreNodes x (length f.locals) [] f.body
@@ -454,13 +486,13 @@ module _ (x : CodeT Where) (W : Whole) (counts : Counts x W) where
   function_size : (f n : ℕ) (g : FunctionT Where) → Sound g → size (function_items W f n g.body) ≤ function_weight g
   function_size f n g ok =
       let F = W.frames f in
-      let x0 = total_append (entry_items W f F) (code_items W F n [] (n + 1) g.body ++ exit_items n F) in
-      let y = total_append (code_items W F n [] (n + 1) g.body) (exit_items n F) in
+      let x0 = total_append (entry_items W f F) (code_items W F None [] (n + 1) g.body ++ exit_items n F) in
+      let y = total_append (code_items W F None [] (n + 1) g.body) (exit_items n F) in
       let e1 = total_more (item.Label (function_label W.names f)) (frame_made F.size) in
       let e2 = total_more (mark n) (frame_gone F.size) in
       let made = made_size F.size in
       let gone = gone_size F.size in
-      omega (arith, x0, y, e1, e2, made, gone, code_size x W counts (length g.locals) F n g.body [] [] (n + 1) ok)
+      omega (arith, x0, y, e1, e2, made, gone, code_size x W counts (length g.locals) F None g.body [] [] (n + 1) ok)
 
   functions_size : (f n : ℕ) (gs : List (FunctionT Where)) → AllOf Sound gs → size (functions_items W f n gs) ≤ sum_by function_weight gs
   functions_size f n [] ok = omega (arith, total_none)
@@ -470,9 +502,9 @@ module _ (x : CodeT Where) (W : Whole) (counts : Counts x W) where
 
   start_size : (main : ℕ) (g : FunctionT Where) → Sound g → size (start_items W main g.body) ≤ nodes_weight g.body + 4
   start_size main g ok =
-      let y = total_append (code_items W start_frame 0 [] 1 g.body) (closing_items W main) in
+      let y = total_append (code_items W start_frame (Some 0) [] 1 g.body) (closing_items W main) in
       let c = three_items (mark 0) (call_item W main) (item.Op (instr.Plain HLT)) 0 2 1 (omega arith) (omega arith) (omega arith) in
-      omega (arith, y, c, code_size x W counts (length g.locals) start_frame 0 g.body [] [] 1 ok)
+      omega (arith, y, c, code_size x W counts (length g.locals) start_frame (Some 0) g.body [] [] 1 ok)
 
 integers_size : (bytes : List ℕ) → size (map item.Integer bytes) ≡ length bytes
 integers_size [] = total_none

@@ -18,7 +18,7 @@ use Rattle.v32_isa.specs.Machine.{act, effect_of, taking}
 use Rattle.v32_isa.specs.Machine.Effect.{Ends as EndsIn, Tells}
 use Rattle.v32_isa.specs.Calls.{turn}
 use Rattle.v32_isa.specs.Calls.Turn.{Other}
-use Rattle.v32_isa.proofs.Steps.{reaches_went, reaches_told}
+use Rattle.v32_isa.proofs.Steps.{reaches_here, reaches_went, reaches_told}
 use Rattle.asm_items.specs.declared.item.AsmItem.{AsmItem}
 use Rattle.asm_items.specs.declared.item.AsmItem.TheVariants as item
 use Rattle.mid_code.specs.declared.placed.Where.{Where}
@@ -33,9 +33,9 @@ use Rattle.asm_laws.specs.Operations as emitted
 use Rattle.asm_laws.specs.Placing.{Line}
 use Rattle.asm_laws.specs.Standing.{Stand}
 use Rattle.asm_laws.specs.Addresses.{Addr, Console, readable, writable, word_of, Room, Good, Goes, computed, loaded, saved, does, Held, Follows}
-use Rattle.asm_laws.proofs.Stepping.{written_same, same_word, readable_word, unreadable_word, writes_at, line_effect, line_turn, took, kept, moved, stores, reg_number}
+use Rattle.asm_laws.proofs.Stepping.{written_same, written_other, same_word, readable_word, unreadable_word, writes_at, line_effect, line_turn, took, kept, moved, stores, reg_number}
 use Rattle.asm_laws.proofs.Hands.{with_reg, hand_fits, hand_other, held_alike, brings_at, takes_at}
-use Rattle.asm_laws.proofs.OperationsStep.{later, faults_like}
+use Rattle.asm_laws.proofs.OperationsStep.{later, faults_like, MakesNine, made_later, made_last}
 use Rattle.asm_laws.proofs.InOneStep.{twice, less_is, load_follows}
 
 -- the address that a known word makes with that of a place, where there is one
@@ -130,6 +130,40 @@ module _ (C : Console) (address : List ℕ → ℕ) (F : Frame) (a : Addr) (room
       go (Reg q) good None is k = copied_follows t o (Reg q) w s xs pc p lt good h e k
       go (Slot j) good (Some v) is k = copied_follows t o (Slot j) w s xs pc p lt good h e k
       go (Slot j) good None is k = copied_follows t o (Slot j) w s xs pc p lt good h e k
+
+  -- ---- an operator whose word stays in register 9
+
+  nine_act : (s : State) (q v next : ℕ) → q < 9 → Held C a s → act (instr.Lea 9 (register q) (Some v)) next s ≡ EndsIn stepped.Went (took C next 9 (add (a.regs q) v) s)
+  unfolding act
+  nine_act s q v next lq h = ap (λ z. EndsIn stepped.Went (took C next 9 (add z v) s)) (ap (λ n. register_of s n) (reg_number C F address q lq) ∙ h.regs q lq)
+
+  nine_copied : (o : TwoOf) (x : Where) (w : ℕ) (s : State) (xs : List ℕ) (pc p : ℕ) → Good F x → Held C a s → s.counter ≡ pc → Here pc (before_it (taken F x 9) ++ item.Op (instr.Two o 9 (src.Imm (Left w))) ∷ []) p → MakesNine C 3 s xs p a (two_of o (word_of F x a) w)
+  nine_copied o x w s xs pc p good h e k =
+      let v = word_of F x a in
+      let d = taken_parts x 9 (item.Op (instr.Two o 9 (src.Imm (Left w))) ∷ []) pc p k in
+      let f = takes_at C F address a s xs pc d.0 x 9 room good (omega arith) h e d.1 in
+      let u = f.to in
+      let l = d.2 in
+      let hu : Held C a u = held_alike C (with_reg 9 v a) a u (λ r lt. written_other a.regs 9 v r (λ z. omega (arith, lt, z))) (λ q. refl) refl refl f.held in
+      let eff = line_effect C a u d.0 (instr.Two o 9 (src.Imm w)) l.0 hu f.at l.1 (omega arith, omega arith, omega arith) ∙ operator_act o 9 w l.0 u ∙ ap (λ z. taking 9 (two_of o z w) l.0 u) f.is in
+      made_later C f.steps 1 3 s u xs p a (two_of o v w) f.by (let n = f.few in omega (arith, n))
+      (made_last C a u xs l.0 p (two_of o v w) hu eff (line_turn C a u d.0 (instr.Two o 9 (src.Imm w)) l.0 hu f.at l.1 (omega arith, omega arith, omega arith)) l.2)
+
+  nine_sum : (q : ℕ) (o : TwoOf) (w v : ℕ) (s : State) (xs : List ℕ) (pc p : ℕ) → added o w ≡ Some v → q < 9 → Held C a s → s.counter ≡ pc → Here pc (item.Op (instr.Lea 9 (register q) (Some (Left v))) ∷ []) p → MakesNine C 3 s xs p a (two_of o (a.regs q) w)
+  nine_sum q o w v s xs pc p is lq h e k =
+      let x = add (a.regs q) v in
+      let eff = line_effect C a s pc (instr.Lea 9 (register q) (Some v)) k.0 h e k.1 (omega arith, omega arith, omega arith) ∙ nine_act s q v k.0 lq h in
+      subst (λ z. MakesNine C 3 s xs p a z) (sym (sum_made o w v (a.regs q) is))
+      (made_later C 0 1 3 s s xs p a (Some x) (reaches_here s xs) (omega arith) (made_last C a s xs k.0 p (Some x) h eff (line_turn C a s pc (instr.Lea 9 (register q) (Some v)) k.0 h e k.1 (omega arith, omega arith, omega arith)) k.2))
+
+  pub known_at : (o : TwoOf) (x : Where) (w : ℕ) (s : State) (xs : List ℕ) (pc p : ℕ) → Good F x → Held C a s → s.counter ≡ pc → Here pc (before_it (using_it F w (Computed o 9 x)).0 ++ item.Op (using_it F w (Computed o 9 x)).1 ∷ []) p → MakesNine C 3 s xs p a (two_of o (word_of F x a) w)
+  known_at o x w s xs pc p good h e k = go x good (added o w) refl k
+    where
+      go : (x : Where) → Good F x → (z : Option ℕ) → added o w ≡ z → Here pc (before_it (known F o 9 x w z).0 ++ item.Op (known F o 9 x w z).1 ∷ []) p → MakesNine C 3 s xs p a (two_of o (word_of F x a) w)
+      go (Reg q) good (Some v) is k = nine_sum q o w v s xs pc p is good h e k
+      go (Reg q) good None is k = nine_copied o (Reg q) w s xs pc p good h e k
+      go (Slot j) good (Some v) is k = nine_copied o (Slot j) w s xs pc p good h e k
+      go (Slot j) good None is k = nine_copied o (Slot j) w s xs pc p good h e k
 
   -- ---- a load
 

@@ -11,6 +11,7 @@ use Rattle.asm_laws.proofs.Control as control
 use Rattle.asm_laws.specs.Holds.{Setting, Fits, Ctx}
 use Rattle.asm_laws.specs.Calling.{Callable, Mach, lang, holder, shapes, FunctionAt}
 use Rattle.asm_laws.proofs.Parts.{op_sim, jump_sim, test_sim, give_sim}
+use Rattle.asm_laws.proofs.GivenBack.{made_sim}
 use Rattle.asm_laws.proofs.Calls.{call_sim}
 use Rattle.asm_laws.proofs.KnownWords.{op_knows}
 use Rattle.asm_laws.proofs.BlockLoop.{copy_sim}
@@ -23,11 +24,12 @@ module _ (S : Setting) (fits : Fits S) (functions : (g : ℕ) → Callable S g �
     tick_work = λ n s. omega arith;
     ticks = λ κ n s m h. record { place = h.place; words = h.words; at = h.at; registers = h.registers; like = h.like; held = h.held };
     jump = jump_sim S fits;
-    none = λ κ s m h. record { place = h.place; words = h.words; at = h.at; registers = h.registers; like = h.like; held = h.held; given = tt };
+    none = λ κ s m h. record { place = h.place; cells = s.cells; words = h.words; at = h.at; registers = h.registers; like = h.like; held = h.held; given = tt };
     none_answers = λ s. refl;
     none_events = λ s. refl;
     none_work = λ s. refl;
     op = op_sim S fits;
+    made = made_sim S fits;
     knows = λ κ pc p more o c s t at e. op_knows S κ.fn pc p more o c s t at e;
     copy = copy_sim S fits;
     test = test_sim S fits;

@@ -1,18 +1,20 @@
 -- How the machine holds the states of placed code, and where its parts stand.
-use Rattle.std.specs.Prelude.{◌≡◌, ℕ, ◌<◌, true, List, [], length, get_or, Option, Some}
+use Rattle.std.specs.Prelude.{◌≡◌, ℕ, ◌<◌, ◌⊎◌, true, List, [], length, get_or, Option, Some}
 use Rattle.v32_isa.specs.State.{register_of, word_at}
 use Rattle.v32_isa.specs.State as machine
 use Rattle.mid_code.specs.declared.placed.Where.{Where}
 use Rattle.mid_code.specs.declared.placed.Where.TheVariants.{Reg}
-use Rattle.mid_code.specs.Code.{NodesT, Do, maybe}
+use Rattle.mid_code.specs.Code.{OpT, NodesT, Do, maybe}
 use Rattle.mid_code.specs.Meaning.{Lang}
 use Rattle.mid_code.specs.States.{State, registers_and_slots, function_at, over_worlds}
 use Rattle.mid_code.specs.Invariants.{AllOf, AreDifferent, Names}
+use Rattle.obj_mem.specs.declared.cell.Cell.{Cell}
 use Rattle.obj_mem.specs.declared.cell.Cell.TheVariants.{Num}
 use Rattle.asm_laws.specs.Placing.{Shapes, Passes, At}
 use Rattle.asm_laws.specs.inner.Following.{Holder}
 use Rattle.asm_laws.specs.Names.{function_label}
-use Rattle.asm_laws.specs.Operations.{group_items, group_more, call_items, giving}
+use Rattle.asm_laws.specs.declared.made.Made.{Made}
+use Rattle.asm_laws.specs.Operations.{group_items, group_more, made_of, made_items, call_items, giving}
 use Rattle.asm_laws.specs.Standing.{Stand}
 use Rattle.asm_laws.specs.declared.copying.Copying.{Copying}
 use Rattle.asm_laws.specs.Copies.{copy_of, copy_at, copy_items, is_count}
@@ -41,11 +43,12 @@ pub record Mach (S : Setting) (κ : Ctx) (s : State Where) (m : machine.State) :
   pub like : (r : ℕ) → r < (S.whole.frames κ.fn).registers → registers r ≡ words.regs r
   pub held : Held S.console (having registers words) m
 
--- at a function's end, with the result in register 9
+-- Where a function ends, with the result in register 9. Its places may have other cells by then.
 pub record Given (S : Setting) (κ : Ctx) (s : State Where) (m : machine.State) : Type 0 where
   pub place : ℕ → ℕ
+  pub cells : Where → Cell
   pub words : Addr
-  pub at : HoldsAt S κ s.world.store s.cells place words
+  pub at : HoldsAt S κ s.world.store cells place words
   pub registers : ℕ → ℕ
   pub like : (r : ℕ) → r < (S.whole.frames κ.fn).registers → registers r ≡ words.regs r
   pub held : Held S.console (having registers words) m
@@ -63,6 +66,12 @@ pub record Counted (b : NodesT Where) (s : State Where) : Type 0 where
   pub count : (y : Copying) → copy_of b ≡ Some y → (n : ℕ) × (s.cells (Reg y.count) ≡ Num n) × (is_count (Some n) ≡ true)
   pub one : (y : Copying) → copy_of b ≡ Some y → s.cells (Reg y.one) ≡ Num 1
 
+-- A function ends at an address: its body does, or its frame is taken away there, and it goes back. The start was not called and cannot.
+abbrev pub ExitAt : Setting → (f pc : ℕ) → Type 0
+ExitAt S f pc =
+    (pc ≡ S.leaves f)
+    ⊎ ((S.called_as f ≡ Some f) × (e : ℕ) × Stand S.console.words S.address pc (frame_gone (S.whole.frames f).size) e)
+
 abbrev pub lang : Setting → Lang Where
 lang S = over_worlds registers_and_slots S.code S.frames
 
@@ -77,7 +86,7 @@ holder S = record {
   work = λ s. s.world.work;
   fn = λ κ. κ.fn;
   entry = S.enters;
-  way_out = S.leaves;
+  exits = ExitAt S;
   known = Counted;
 }
 
@@ -91,13 +100,29 @@ pub record CallAt (S : Setting) (f pc : ℕ) (t : Option Where) (g : ℕ) (args 
   pub count : length args ≡ length (S.whole.params g)
   pub stands : Stand S.console.words S.address pc (call_items S.whole (S.whole.frames f) t g args) p
 
--- a result is given, and the function's end comes next
+-- an operator's word is made in register 9, and then the function ends
+pub record MadeAt (S : Setting) (f pc : ℕ) (o : OpT Where) (c : NodesT Where) : Type 0 where
+  pub more : ℕ
+  pub made : Made
+  pub is : made_of S.whole (S.whole.frames f) o c ≡ Some (more, made)
+  pub fits : Fitting S f o
+  pub front : FrontFits S f c more
+  pub spares : Sparing (S.whole.frames f).registers (Do o c) 0
+  pub then : ℕ
+  pub stands : Stand S.console.words S.address pc (made_items (S.whole.frames f) made) then
+  pub out : ℕ
+  pub passes : Passes S.console.words then out
+  pub exit : ExitAt S f out
+
+-- a result is given, and then the function ends
 pub record GivingAt (S : Setting) (f pc : ℕ) (w : Option Where) : Type 0 where
   pub named : AllOf (Named S f) (maybe w)
   pub stays : AllOf (Stays (S.whole.frames f).registers) (maybe w)
   pub then : ℕ
   pub stands : Stand S.console.words S.address pc (giving (S.whole.frames f) w) then
-  pub passes : Passes S.console.words then (S.leaves f)
+  pub out : ℕ
+  pub passes : Passes S.console.words then out
+  pub exit : ExitAt S f out
 
 abbrev pub shapes : Setting → Shapes
 shapes S = record {
@@ -109,6 +134,7 @@ shapes S = record {
   test = λ f pc w other next. Named S f w × Tests S.console.words S.address (S.whole.frames f) pc w other next
       × Stays (S.whole.frames f).registers w;
   giving = GivingAt S;
+  made = MadeAt S;
   copy = λ f pc b k p. (y : Copying) × (copy_at k b ≡ Some y) × Stand S.console.words S.address pc (copy_items y) p × Names (Named S f) b
       × Sparing (S.whole.frames f).registers b 0;
 }

@@ -1,5 +1,5 @@
 -- The instructions of each operation of placed code.
-use Rattle.std.specs.Prelude.{ℕ, suc, ◌+◌, ◌%◌, ◌==◌, ◌&&◌, not, cond, Bool, false, List, [], ◌∷◌, ◌++◌, map, Option, Some, None, get_or, option_map}
+use Rattle.std.specs.Prelude.{ℕ, zero, suc, ◌+◌, ◌%◌, ◌==◌, ◌&&◌, not, cond, Bool, false, List, [], ◌∷◌, ◌++◌, map, Option, Some, None, get_or, option_map}
 use Rattle.either.specs.declared.Either.TheVariants.{Left, Right}
 use Rattle.kit_base.specs.Word.{add, sub}
 use Rattle.v32_isa.specs.declared.instruction.Plain.TheVariants.{HLT, WAIT}
@@ -16,14 +16,17 @@ use Rattle.asm_items.specs.declared.item.AsmItem.TheVariants as item
 use Rattle.asm_items.specs.Items.{Imm}
 use Rattle.mid_code.specs.declared.placed.Where.{Where}
 use Rattle.mid_code.specs.declared.placed.Where.TheVariants.{Reg, Slot}
-use Rattle.mid_code.specs.Code.{NodesT, Do, OpT, ConstO, NullO, MoveO, OneO, TwoO, GlobalO, LocalO, LiteralO, CardO, StepO, ApartO, PtrTestO, LoadO}
+use Rattle.mid_code.specs.Placed.{is_same_place}
+use Rattle.mid_code.specs.Code.{NodesT, Do, Return, OpT, ConstO, NullO, MoveO, OneO, TwoO, GlobalO, LocalO, LiteralO, CardO, StepO, ApartO, PtrTestO, LoadO}
 use Rattle.mid_code.specs.Code.{StoreO, FreshO, EndO, InO, OutO, WaitO, HaltO}
 use Rattle.asm_laws.specs.Names.{literal_label, function_label}
 use Rattle.asm_laws.specs.Moves.{Move, in_order}
 use Rattle.asm_laws.specs.declared.used.Used.{Used}
 use Rattle.asm_laws.specs.declared.used.Used.TheVariants.{Computed, Loaded, Indexed, Offset, Stored, Sent}
 use Rattle.asm_laws.specs.Pieces.{register, is_in, turned, other_word, loads_there}
-use Rattle.asm_laws.specs.Spare.{used_by}
+use Rattle.asm_laws.specs.declared.made.Made.{Made}
+use Rattle.asm_laws.specs.declared.made.Made.TheVariants.{Both, Known}
+use Rattle.asm_laws.specs.Spare.{operand, used_by}
 use Rattle.asm_laws.specs.Copies.{lead}
 
 -- the frame of a function: its size, and the offsets of its slots and of its locals' first words. Offset 0 is the
@@ -345,10 +348,64 @@ group_items W F o c = led_items W F o c (lead (Do o c))
 abbrev pub group_more : Whole → Frame → OpT Where → NodesT Where → ℕ
 group_more W F o c = led_more W F o c (lead (Do o c))
 
+-- ---- results
+
 -- a result is given back in register 9
 abbrev pub giving : Frame → Option Where → List AsmItem
 giving F None = []
 giving F (Some p) = fetches F p 9 ∷ []
+
+-- where it does not stand there already
+abbrev pub giving_left : Frame → Option Where → (done : ℕ) → List AsmItem
+giving_left F p zero = giving F p
+giving_left F p (suc k) = []
+
+-- the place whose word the first of some nodes gives back
+abbrev pub given_first : NodesT Where → Option Where
+given_first (Return p c) = p
+given_first _ = None
+
+-- An operator whose word is given back right behind it makes it in register 9: of the words of two places, or of that of a place and a known word, which was
+-- put into register 8 right before where that is spare. How many nodes behind the first one are done then.
+abbrev pub made_both : OpT Where → Option Where → Option (ℕ × Made)
+made_both (TwoO o t a b) (Some p) = cond (is_same_place p t) (Some (1, Both o a b)) None
+made_both _ _ = None
+
+abbrev pub made_known : Frame → (given : Option Where) → Where → Option (ℕ × ℕ) → Option (TwoOf × Where) → Option (ℕ × Made)
+made_known F (Some p) t (Some (r, w)) (Some (o, q)) = cond (is_spared F (Some (r, w)) && is_same_place p t) (Some (2, Known o q w)) None
+made_known F _ t _ _ = None
+
+abbrev pub made_with : Frame → Option (ℕ × ℕ) → NodesT Where → Option (ℕ × Made)
+made_with F put (Do (TwoO o t a b) c) = made_known F (given_first c) t put (operand o a b)
+made_with F put _ = None
+
+abbrev pub first_made : Option (ℕ × Made) → Option (ℕ × Made) → Option (ℕ × Made)
+first_made None y = y
+first_made (Some x) y = Some x
+
+unfoldable pub made_of : Whole → Frame → OpT Where → NodesT Where → Option (ℕ × Made)
+made_of W F o c = first_made (made_both o (given_first c)) (made_with F (word_put W o) c)
+
+abbrev pub made_items : Frame → Made → List AsmItem
+made_items F (Both o a b) = fetches F a 9 ∷ (brings F b 10 ++ item.Op (instr.Two o 9 (src.Reg (hand b 10))) ∷ [])
+made_items F (Known o a w) = before_it (using_it F w (Computed o 9 a)).0 ++ item.Op (using_it F w (Computed o 9 a)).1 ∷ []
+
+-- the items of an operation that comes next, with all that is done with it, and how many nodes behind it are
+abbrev pub made_or : Frame → Option (ℕ × Made) → (other : List AsmItem) → List AsmItem
+made_or F None other = other
+made_or F (Some (k, y)) other = made_items F y
+
+abbrev pub made_more : Option (ℕ × Made) → (other : ℕ) → ℕ
+made_more None k = k
+made_more (Some (j, y)) k = j
+
+abbrev pub next_items : Whole → Frame → OpT Where → NodesT Where → List AsmItem
+next_items W F o c = made_or F (made_of W F o c) (group_items W F o c)
+
+abbrev pub next_more : Whole → Frame → OpT Where → NodesT Where → ℕ
+next_more W F o c = made_more (made_of W F o c) (group_more W F o c)
+
+-- ---- the start and the literals
 
 -- the start's slots lie where the frame of main comes to stand
 abbrev pub start_frame : Frame

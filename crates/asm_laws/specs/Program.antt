@@ -13,7 +13,8 @@ use Rattle.mid_code.specs.States.{function_at}
 use Rattle.mid_code.specs.Invariants.{AreNodes, Names, CallsNone}
 use Rattle.asm_laws.specs.Placing.{Shapes, Passes, At}
 use Rattle.asm_laws.specs.Names.{function_label}
-use Rattle.asm_laws.specs.Operations.{group_items, group_more, call_items, giving}
+use Rattle.asm_laws.specs.declared.made.Made.{Made}
+use Rattle.asm_laws.specs.Operations.{group_items, group_more, made_of, made_items, call_items, giving}
 use Rattle.asm_laws.specs.Standing.{Stand}
 use Rattle.asm_laws.specs.declared.copying.Copying.{Copying}
 use Rattle.asm_laws.specs.Copies.{copy_at, copy_items}
@@ -21,7 +22,7 @@ use Rattle.asm_laws.specs.Spare.{Sparing}
 use Rattle.asm_laws.specs.Tests.{Tests}
 use Rattle.asm_laws.specs.Framing.{frame_made, frame_gone}
 use Rattle.asm_laws.specs.Holds.{Setting, local_offset, Named, Fits, depth_of}
-use Rattle.asm_laws.specs.Calling.{Callable}
+use Rattle.asm_laws.specs.Calling.{Callable, ExitAt}
 use Rattle.asm_laws.specs.Laid.{Laid}
 
 -- the items of each part, with nothing said of places and numbers
@@ -32,7 +33,11 @@ items_at S = record {
       × (more ≡ group_more S.whole (S.whole.frames f) o c);
   call = λ f pc t g args p. Stand S.console.words S.address pc (call_items S.whole (S.whole.frames f) t g args) p;
   test = λ f pc w other next. Tests S.console.words S.address (S.whole.frames f) pc w other next;
-  giving = λ f pc w. (q : ℕ) × Stand S.console.words S.address pc (giving (S.whole.frames f) w) q × Passes S.console.words q (S.leaves f);
+  giving = λ f pc w. (q : ℕ) × Stand S.console.words S.address pc (giving (S.whole.frames f) w) q
+      × (out : ℕ) × Passes S.console.words q out × ExitAt S f out;
+  made = λ f pc o c. (more : ℕ) × (made : Made) × (made_of S.whole (S.whole.frames f) o c ≡ Some (more, made))
+      × (q : ℕ) × Stand S.console.words S.address pc (made_items (S.whole.frames f) made) q
+      × (out : ℕ) × Passes S.console.words q out × ExitAt S f out;
   copy = λ f pc b k p. (y : Copying) × (copy_at k b ≡ Some y) × Stand S.console.words S.address pc (copy_items y) p;
 }
 

@@ -4,6 +4,7 @@
 mod behind;
 mod copying;
 mod laws;
+mod made;
 mod used;
 
 pub use behind::Behind;
@@ -11,4 +12,5 @@ pub use copying::Copying;
 pub use laws::{
     calls_stay_within_numbers, placed_code_agrees, places_have_numbers_or_are_forbidden,
 };
+pub use made::Made;
 pub use used::Used;

@@ -8,15 +8,16 @@ use Rattle.asm_items.specs.Items.{Imm}
 use Rattle.mid_code.specs.declared.placed.Where.{Where}
 use Rattle.mid_code.specs.declared.node.Op.{Op}
 use Rattle.mid_code.specs.declared.node.Op.TheVariants as op
-use Rattle.mid_code.specs.Code.{NodesT, OpT, Do, Call, Stop}
+use Rattle.mid_code.specs.Code.{NodesT, OpT, Do, Call, Return, Stop}
 use Rattle.mid_code.specs.Functions.{op_before, NodeT, DoN, ChooseN, BlockN, LoopN, LeaveN, AgainN, ReturnN, ListT, NoN, MoreN, before, joined}
 use Rattle.asm_laws.specs.Operations.{Frame, Whole, op_items, word_put, with_word, is_spared, with_known, in_one, before_it, call_items}
-use Rattle.asm_laws.specs.Operations.{hand, brings, puts_items, put_item}
+use Rattle.asm_laws.specs.declared.made.Made.{Made}
+use Rattle.asm_laws.specs.Operations.{hand, brings, puts_items, put_item, giving, given_first, made_both, made_with, first_made, made_of, made_or}
 use Rattle.asm_laws.specs.Spare.{used_by}
 use Rattle.asm_laws.specs.Copies.{lead, copy_at, copy_or}
 use Rattle.asm_laws.specs.declared.behind.Behind.{Behind}
 use Rattle.asm_laws.specs.declared.behind.Behind.TheVariants.{Other, End, Turn}
-use Rattle.asm_laws.specs.inner.Emitted.{enclosing, jump, alone, choice, enclosed, returning, inside, is_end, again, looped, jump_when}
+use Rattle.asm_laws.specs.inner.Emitted.{enclosing, jump, alone, choice, enclosed, left_by, inside, is_end, again, looped, jump_when}
 
 -- how many labels nodes take
 abbrev mutual
@@ -80,14 +81,27 @@ abbrev pub led_behind : Whole → Frame → OpT Where → NodesT Where → Optio
 led_behind W F o c None = ahead_more (in_one W F o c)
 led_behind W F o c (Some j) = Some j
 
--- the items of an operation that stands first and is done in one go with others, where it is not done already
+-- what makes a word that is given back, where an operation stands first before other nodes
+abbrev pub front_both : NodesT Where → Option Where → Option (ℕ × Made)
+front_both (Do o c) given = made_both o given
+front_both _ given = None
+
+abbrev pub op_made : Whole → Frame → Op Where → NodesT Where → Option (ℕ × Made)
+op_made W F o c = first_made (front_both (op_before o Stop) (given_first c)) (made_with F (front_put W (op_before o Stop)) c)
+
+abbrev pub more_ahead : Option (ℕ × Made) → (other : Option ℕ) → Option ℕ
+more_ahead None other = other
+more_ahead (Some (k, y)) other = Some k
+
+-- The items of an operation that stands first and is done in one go with others, where it is not done already; and a result that is given.
 abbrev pub front_items : Whole → Frame → NodesT Where → (done : ℕ) → List AsmItem
-front_items W F (Do o c) k = cond (k == 0) (led_ahead W F o c (lead (Do o c))) []
+front_items W F (Do o c) k = cond (k == 0) (made_or F (made_of W F o c) (led_ahead W F o c (lead (Do o c)))) []
+front_items W F (Return p c) k = cond (k == 0) (giving F p) []
 front_items W F _ k = []
 
 -- how many behind it are done then; none is said where its own items are due
 abbrev pub front_more : Whole → Frame → NodesT Where → (done : ℕ) → Option ℕ
-front_more W F (Do o c) k = cond (k == 0) (led_behind W F o c (lead (Do o c))) (Some (k - 1))
+front_more W F (Do o c) k = cond (k == 0) (more_ahead (made_of W F o c) (led_behind W F o c (lead (Do o c)))) (Some (k - 1))
 front_more W F _ k = None
 
 -- a loop that copies words is done by a block move, where so many operations in front are done already
@@ -183,7 +197,7 @@ module _ (W : Whole) (F : Frame) where
       front_items W F (before x (joined rest)) k
       ++ onward (front_more W F (before x (joined rest)) k) (own_test to x) (list_test to rest) (list_test to rest 0)
 
-module _ (W : Whole) (F : Frame) (out : ℕ) where
+module _ (W : Whole) (F : Frame) (out : Option ℕ) where
   abbrev mutual
     pub node_items : (last : Behind) → List ℕ → ℕ → NodeT Where → List AsmItem
     node_items last ls n (DoN o) = do_items W F o
@@ -195,7 +209,7 @@ module _ (W : Whole) (F : Frame) (out : ℕ) where
         looped (tested_in b) n (list_past (inside last) (ls ++ n ∷ []) (n + 2) b 0) (list_part (ls ++ n ∷ []) (n + 2) b) (list_test W F (n + 2) b 0)
     node_items last ls n (LeaveN k) = jump (add (enclosing ls k) 1) ∷ []
     node_items last ls n (AgainN k) = again ls k last
-    node_items last ls n (ReturnN p) = returning F p out (is_end last)
+    node_items last ls n (ReturnN p) = left_by F out (is_end last)
 
     -- so many operations in front are done already
     pub list_past : (last : Behind) → List ℕ → ℕ → ListT Where → (done : ℕ) → List AsmItem

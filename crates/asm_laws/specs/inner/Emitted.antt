@@ -14,7 +14,7 @@ use Rattle.mid_code.specs.Code.{NodesT, Stop, Do, Call, Choose, Block, Loop, Lea
 use Rattle.asm_laws.specs.declared.behind.Behind.{Behind}
 use Rattle.asm_laws.specs.declared.behind.Behind.TheVariants.{Other, End, Turn}
 use Rattle.asm_laws.specs.Names.{jump_label, function_label}
-use Rattle.asm_laws.specs.Operations.{Frame, Whole, hand, brings, giving, group_items, group_more, call_items, start_frame, literals_items}
+use Rattle.asm_laws.specs.Operations.{Frame, Whole, hand, brings, giving_left, next_items, next_more, call_items, start_frame, literals_items}
 use Rattle.asm_laws.specs.Framing.{frame_made, frame_gone}
 use Rattle.asm_laws.specs.Copies.{copy_at, copy_or}
 
@@ -128,14 +128,19 @@ is_tested (Do o c) = is_tested c
 is_tested (Choose p a b c) = is_stop b && (is_stop c && is_round a)
 is_tested _ = false
 
--- a result is given back in register 9, by a jump to the function's end where that does not come next
-abbrev pub returning : Frame → Option Where → ℕ → (last : Bool) → List AsmItem
-returning F p out last = giving F p ++ cond last [] (jump out ∷ [])
+-- What leaves a function: it takes its frame away and goes back. The start, which was not called, jumps to the label that is given.
+abbrev pub leaving : Frame → (out : Option ℕ) → List AsmItem
+leaving F None = frame_gone F.size
+leaving F (Some n) = jump n ∷ []
 
-module _ (W : Whole) (F : Frame) (out : ℕ) where
+-- it is left behind a result, where its end does not come next
+abbrev pub left_by : Frame → (out : Option ℕ) → (last : Bool) → List AsmItem
+left_by F out last = cond last [] (leaving F out)
+
+module _ (W : Whole) (F : Frame) (out : Option ℕ) where
   -- the operations and the test of such a loop, which goes to a label; so many operations in front are done already
   abbrev pub test_items : (to : ℕ) → NodesT Where → (done : ℕ) → List AsmItem
-  test_items to (Do o c) zero = group_items W F o c ++ test_items to c (group_more W F o c)
+  test_items to (Do o c) zero = next_items W F o c ++ test_items to c (next_more W F o c)
   test_items to (Do o c) (suc k) = test_items to c k
   test_items to Stop k = []
   test_items to (Choose p a b c) k = brings F p 9 ++ jump_when (hand p 9) to ∷ test_items to c 0
@@ -144,14 +149,14 @@ module _ (W : Whole) (F : Frame) (out : ℕ) where
   test_items to (Loop b c) k = test_items to c 0
   test_items to (Leave j c) k = test_items to c 0
   test_items to (Again j c) k = test_items to c 0
-  test_items to (Return p c) k = test_items to c 0
+  test_items to (Return p c) k = giving_left F p k ++ test_items to c 0
 
   abbrev mutual
     -- the items of nodes whose labels begin at n, inside blocks and loops with these labels; so many operations in front are done already. What comes
     -- right behind them.
     pub items_past : (last : Behind) → List ℕ → ℕ → NodesT Where → (done : ℕ) → List AsmItem
     items_past last ls n Stop k = []
-    items_past last ls n (Do o c) zero = group_items W F o c ++ items_past last ls n c (group_more W F o c)
+    items_past last ls n (Do o c) zero = next_items W F o c ++ items_past last ls n c (next_more W F o c)
     items_past last ls n (Do o c) (suc k) = items_past last ls n c k
     items_past last ls n (Call t g args c) k = call_items W F t g args ++ items_past last ls n c 0
     items_past last ls n (Choose p a b c) k =
@@ -165,7 +170,7 @@ module _ (W : Whole) (F : Frame) (out : ℕ) where
         (test_items (n + 2) b 0)) ++ items_past last ls (n + (2 + labels b)) c 0
     items_past last ls n (Leave j c) k = jump (add (enclosing ls j) 1) ∷ items_past last ls n c 0
     items_past last ls n (Again j c) k = again ls j (ends last c) ++ items_past last ls n c 0
-    items_past last ls n (Return p c) k = returning F p out (is_end (ends last c)) ++ items_past last ls n c 0
+    items_past last ls n (Return p c) k = giving_left F p k ++ (left_by F out (is_end (ends last c)) ++ items_past last ls n c 0)
 
     -- what is done in a turn of such a loop
     pub part_items : List ℕ → ℕ → NodesT Where → List AsmItem
@@ -186,7 +191,7 @@ exit_items n F = mark n ∷ frame_gone F.size
 
 -- the items of a function behind its label
 abbrev pub own_items : Whole → ℕ → ℕ → NodesT Where → List AsmItem
-own_items W f n body = frame_made (W.frames f).size ++ (code_items W (W.frames f) n [] (n + 1) body ++ exit_items n (W.frames f))
+own_items W f n body = frame_made (W.frames f).size ++ (code_items W (W.frames f) None [] (n + 1) body ++ exit_items n (W.frames f))
 
 abbrev pub function_items : Whole → ℕ → ℕ → NodesT Where → List AsmItem
 function_items W f n body = items.Label (function_label W.names f) ∷ own_items W f n body
@@ -208,7 +213,7 @@ abbrev pub closing_items : Whole → ℕ → List AsmItem
 closing_items W main = mark 0 ∷ call_item W main ∷ items.Op (instr.Plain HLT) ∷ []
 
 abbrev pub start_items : Whole → ℕ → NodesT Where → List AsmItem
-start_items W main body = code_items W start_frame 0 [] 1 body ++ closing_items W main
+start_items W main body = code_items W start_frame (Some 0) [] 1 body ++ closing_items W main
 
 -- the whole program: the start, the functions in order, the literals
 abbrev pub program_items : Whole → CodeT Where → List AsmItem

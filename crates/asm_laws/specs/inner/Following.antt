@@ -9,7 +9,7 @@ use Rattle.v32_isa.proofs.Steps.{before, Reaches, Moves}
 use Rattle.obj_mem.specs.Runs.{Ending, Halted, Fault, Starved, Stray, Deep, OutOfBound}
 use Rattle.mid_code.specs.declared.placed.Where.{Where}
 use Rattle.mid_code.specs.Code.{OpT, NodesT, Stop, Do, Call, Choose, Block, Loop, Leave, Again, Return}
-use Rattle.mid_code.specs.Meaning.{Did, On, Ends, Res, Next, Leaves, Repeats, Returns, Over, Lang, node_weight, call_weight, turn_done, does, below}
+use Rattle.mid_code.specs.Meaning.{Did, On, Ends, Res, Next, Leaves, Repeats, Returns, Over, Lang, node_weight, call_weight, turn_done, did, does, below}
 use Rattle.asm_laws.specs.Placing.{Shapes, Bounds, end_of, begin_of, owed, due, Jumps, At}
 
 -- how the machine holds a state: inside a function, at its end with the result, and where the run has ended
@@ -21,10 +21,10 @@ pub record Holder (L : Lang Where) : Type 1 where
   pub answers : L.S → List ℕ
   pub events : L.S → List Event
   pub work : L.S → ℕ
-  -- the function of a call, where the bodies of functions begin, and where they end
+  -- the function of a call, where the bodies of functions begin, and at which addresses functions end
   pub fn : K → ℕ
   pub entry : ℕ → ℕ
-  pub way_out : ℕ → ℕ
+  pub exits : (function pc : ℕ) → Type 0
   -- what is known where a loop with such a body begins that is done by a block move
   pub known : NodesT Where → L.S → Type 0
 
@@ -90,20 +90,22 @@ abbrev pub Sim : {L : Lang Where} → (X : Holder L) → X.K → State → Begin
 Sim X κ m b e n ls (Next t) = Came X m b t e 0 0 (X.M κ t)
 Sim X κ m b e n ls (Leaves k t) = Came X m b t (end_of ls k) 0 0 (X.M κ t)
 Sim X κ m b e n ls (Repeats k t) = Came X m b t (begin_of ls k) (due (owed ls k)) 0 (X.M κ t)
-Sim X κ m b e n ls (Returns t) = Came X m b t (X.way_out (X.fn κ)) 0 0 (X.G κ t)
+Sim X κ m b e n ls (Returns t) = (q : ℕ) × X.exits (X.fn κ) q × Came X m b t q 0 0 (X.G κ t)
 Sim X κ m b e n ls (Over f t) = Final X n m b f t
 
 abbrev pub DidSim : {L : Lang Where} → (X : Holder L) → X.K → State → Begin → ℕ → Did L.S → Type 0
 DidSim X κ m b p (On t) = Came X m b t p 0 0 (X.M κ t)
 DidSim X κ m b p (Ends f t) = (n : ℕ) → Final X n m b f t
 
--- A call has come to the function's body, with 8 spare for the way back; from the function's end it comes back.
+-- A call has come to the function's body, with 8 spare for the way back; from where the function ends, be it behind the body or before, it comes back.
 pub record Enters {L : Lang Where} (X : Holder L) (H : Shapes) (κ : X.K) (p : ℕ) (t : Option Where) (f : ℕ) (u s0 : L.S) (m : State) (b : Begin) : Type 0 where
   pub inner : X.K
   pub link : Link
-  pub placed : At H (X.fn inner) [] (X.entry f) (L.body f) (X.way_out (X.fn inner))
+  pub end : ℕ
+  pub exit : X.exits (X.fn inner) end
+  pub placed : At H (X.fn inner) [] (X.entry f) (L.body f) end
   pub goes : CameBy [] (link ∷ []) X m (spare 8 b) s0 (X.entry f) 1 0 (X.M inner s0)
-  pub back : (s1 : L.S) (m1 : State) → X.G inner s1 m1 → m1.counter ≡ X.way_out (X.fn inner)
+  pub back : (s1 : L.S) (m1 : State) → X.G inner s1 m1 → X.exits (X.fn inner) m1.counter
       → CameBy (link ∷ []) [] X m1 (begin X s1) (L.back t u s1) p 0 8 (X.M κ (L.back t u s1))
 
 abbrev pub CallSim : {L : Lang Where} → (X : Holder L) → Shapes → X.K → ℕ → Option Where → ℕ → L.S → State → Begin → Did L.S → Type 0
@@ -158,6 +160,8 @@ pub record Parts (L : Lang Where) (X : Holder L) (H : Shapes) : Type 0 where
   pub none_work : (s : L.S) → X.work (L.none s) ≡ X.work s
   pub op : (κ : X.K) (pc p more : ℕ) (o : OpT Where) (c : NodesT Where) (s : L.S) (m : State) → H.op (X.fn κ) pc o c more p → m.counter ≡ pc
       → X.M κ s m → DidSim X κ m (begin X s) p (did_then (L.act o s) (front_acts L c more))
+  pub made : (κ : X.K) (pc : ℕ) (o : OpT Where) (c : NodesT Where) (s : L.S) (m : State) → H.made (X.fn κ) pc o c → m.counter ≡ pc → X.M κ s m
+      → (e n : ℕ) (ls : List Bounds) → Sim X κ m (begin X s) e n ls (did (L.act o s) (does L n (below L n) c))
   pub knows : (κ : X.K) (pc p more : ℕ) (o : OpT Where) (c : NodesT Where) (s t : L.S) → H.op (X.fn κ) pc o c more p → L.act o s ≡ On t
       → knows X c more t
   pub copy : (κ : X.K) (pc p k : ℕ) (b : NodesT Where) (s : L.S) (m : State) → H.copy (X.fn κ) pc b k p → known_at X b k s → m.counter ≡ pc → X.M κ s m
@@ -166,7 +170,7 @@ pub record Parts (L : Lang Where) (X : Holder L) (H : Shapes) : Type 0 where
   pub test : (κ : X.K) (pc py px : ℕ) (w : Where) (s : L.S) (m : State) → H.test (X.fn κ) pc w py px → m.counter ≡ pc → X.M κ s m
       → TestSim X κ py px m (begin X s) (L.tick node_weight s) (L.test w s)
   pub give : (κ : X.K) (pc : ℕ) (w : Option Where) (s : L.S) (m : State) → H.giving (X.fn κ) pc w → m.counter ≡ pc → X.M κ s m →
-      Came X m (begin X s) (L.give w (L.tick node_weight s)) (X.way_out (X.fn κ)) 0 0 (X.G κ (L.give w (L.tick node_weight s)))
+      (q : ℕ) × X.exits (X.fn κ) q × Came X m (begin X s) (L.give w (L.tick node_weight s)) q 0 0 (X.G κ (L.give w (L.tick node_weight s)))
   pub call : (κ : X.K) (pc p : ℕ) (t : Option Where) (f : ℕ) (args : List Where) (s : L.S) (m : State) → H.call (X.fn κ) pc t f args p
       → m.counter ≡ pc → X.M κ s m →
       CallSim X H κ p t f (L.tick (call_weight args) s) m (begin X s) (L.enter f args (L.tick (call_weight args) s))

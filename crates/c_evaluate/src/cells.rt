@@ -150,8 +150,7 @@ pub(crate) fn fetched<'a>(
     match ty {
         CType::Void => Err(Stop::Cause(End::Stray(span))),
         CType::Array(_, _) => Ok(p),
-        CType::Struct(_) => structure(s, span, n, s.words(ty), p, store),
-        CType::Union(_) => structure(s, span, n, s.words(ty), p, store),
+        CType::Struct(_) | CType::Union(_) => structure(s, span, n, s.words(ty), p, store),
         CType::Int | CType::Bool | CType::Enum(_) | CType::Pointer(_) => located(
             span,
             read_as(ty, &store.objects, p),

@@ -50,8 +50,7 @@ fn take_statement_outcome<'a>(
     match stage {
         Stage::Value => outcome_value(s, of, v, stack, store),
         Stage::Step => with_step(s, of, v, stack, store),
-        Stage::Body => strays(),
-        Stage::Begin => strays(),
+        Stage::Body | Stage::Begin => strays(),
     }
 }
 
@@ -113,9 +112,11 @@ pub(crate) fn take_outcome<'a>(
             let c = taken(s, n, x, v, store)?;
             take_outcome_one(s, n, ty, p, c, stack, store)
         }
-        Frame::Back(_, _, _, _, _) | Frame::Rest(_, _, _) | Frame::Arms(_, _, _) | Frame::End(_) =>
-            strays(),
-        Frame::Switch
+        Frame::Back(_, _, _, _, _)
+        | Frame::Rest(_, _, _)
+        | Frame::Arms(_, _, _)
+        | Frame::End(_)
+        | Frame::Switch
         | Frame::Items(_, _, _, _, _)
         | Frame::Vars(_, _)
         | Frame::Filled
@@ -141,8 +142,7 @@ fn take_statement_exit<'a>(
     match stage {
         Stage::Body => body_exit(s, of, h, stack, store),
         Stage::Begin => begin_exit(of, h, stack, store),
-        Stage::Value => strays(),
-        Stage::Step => strays(),
+        Stage::Value | Stage::Step => strays(),
     }
 }
 
@@ -174,9 +174,7 @@ fn main_called<'a>(
             spend(store, 1);
             call(s, n, main, Vec::new(s.alloc), nowhere(), stack, store)
         }
-        How::Break => strays(),
-        How::Continue => strays(),
-        How::Return(_) => strays(),
+        How::Break | How::Continue | How::Return(_) => strays(),
     }
 }
 
@@ -225,9 +223,13 @@ pub(crate) fn take_exit<'a>(
         }
         Frame::Switch => Ok(Focus::Exit(switched(h))),
         Frame::Main(n, main) => main_called(s, n, main, h, stack, store),
-        Frame::First(_, _) | Frame::Second(_, _, _) | Frame::Argument(_, _, _, _, _) => strays(),
-        Frame::One(_, _, _, _) | Frame::Items(_, _, _, _, _) | Frame::Vars(_, _) | Frame::Filled =>
-            strays(),
+        Frame::First(_, _)
+        | Frame::Second(_, _, _)
+        | Frame::Argument(_, _, _, _, _)
+        | Frame::One(_, _, _, _)
+        | Frame::Items(_, _, _, _, _)
+        | Frame::Vars(_, _)
+        | Frame::Filled => strays(),
     }
 }
 
@@ -246,10 +248,7 @@ fn full_statement<'a>(
         (fill_up (setting_of s.now) (stmt_frame stage n r (tstmt a.now)) (stack_of stack.now.items) (store_of store.now)) }
 {
     match stage {
-        Stage::Body => strays(),
-        Stage::Begin => strays(),
-        Stage::Value => strays(),
-        Stage::Step => strays(),
+        Stage::Body | Stage::Begin | Stage::Value | Stage::Step => strays(),
     }
 }
 
@@ -276,8 +275,12 @@ pub(crate) fn fill_up<'a>(
         Frame::First(_, _)
         | Frame::Second(_, _, _)
         | Frame::Argument(_, _, _, _, _)
-        | Frame::Back(_, _, _, _, _) => strays(),
-        Frame::Rest(_, _, _) | Frame::Arms(_, _, _) | Frame::End(_) | Frame::Switch => strays(),
-        Frame::One(_, _, _, _) | Frame::Main(_, _) => strays(),
+        | Frame::Back(_, _, _, _, _)
+        | Frame::Rest(_, _, _)
+        | Frame::Arms(_, _, _)
+        | Frame::End(_)
+        | Frame::Switch
+        | Frame::One(_, _, _, _)
+        | Frame::Main(_, _) => strays(),
     }
 }

@@ -83,14 +83,15 @@ pub(crate) fn eval<'a>(
             let p = located(e.span, local_cell(&store.locals, *number as usize))?;
             Ok(Focus::Outcome(Outcome::Place(p)))
         }
-        TKind::Unary(_, x) => operand(s, n, e, x, stack, store),
-        TKind::Binary(_, x, _) => operand(s, n, e, x, stack, store),
-        TKind::Assign(_, x, _) => operand(s, n, e, x, stack, store),
-        TKind::Step(_, x) => operand(s, n, e, x, stack, store),
-        TKind::Index(x, _) => operand(s, n, e, x, stack, store),
-        TKind::Member(x, _) => operand(s, n, e, x, stack, store),
-        TKind::Arrow(x, _) => operand(s, n, e, x, stack, store),
-        TKind::Cast(x) => operand(s, n, e, x, stack, store),
+        TKind::Unary(_, x)
+        | TKind::Binary(_, x, _)
+        | TKind::Assign(_, x, _)
+        | TKind::Step(_, x)
+        | TKind::Index(x, _)
+        | TKind::Member(x, _)
+        | TKind::Arrow(x, _)
+        | TKind::Cast(x)
+        | TKind::Out(_, x) => operand(s, n, e, x, stack, store),
         TKind::Call(f, xs) => {
             let values = no_arguments(s, store);
             let of = CallSite {
@@ -101,7 +102,6 @@ pub(crate) fn eval<'a>(
             arguments(s, &of, values, xs.as_slice(), stack, store)
         }
         TKind::In(port) => input(*port, store),
-        TKind::Out(_, x) => operand(s, n, e, x, stack, store),
         TKind::Wait => Ok(Focus::Made(Event::Wait, Outcome::Nothing)),
         TKind::Halt => Err(Stop::Cause(End::Halted)),
         TKind::Card => Ok(Focus::Outcome(Outcome::Value(s.card_at()))),

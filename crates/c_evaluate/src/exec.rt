@@ -343,9 +343,11 @@ pub(crate) fn exec<'a>(
             vars(n, vs.as_slice(), stack, store)
         }
         TStmt::Do(x) => does(s, n, r, a, x, stack, store),
-        TStmt::If(x, _, None) => asked(s, n, r, a, x, stack, store),
-        TStmt::If(x, _, Some(_)) => asked(s, n, r, a, x, stack, store),
-        TStmt::While(x, _) => asked(s, n, r, a, x, stack, store),
+        TStmt::If(x, _, None)
+        | TStmt::If(x, _, Some(_))
+        | TStmt::While(x, _)
+        | TStmt::Switch(x, _, _)
+        | TStmt::Return(Some(x)) => asked(s, n, r, a, x, stack, store),
         TStmt::DoWhile(body, _) => part(Stage::Body, n, r, a, body, stack),
         TStmt::For(made, first, test, _, body) => {
             fresh_all(s, store, made.as_slice())?;
@@ -355,9 +357,7 @@ pub(crate) fn exec<'a>(
                 Some(b) => part(Stage::Begin, n, r, a, b, stack),
             }
         }
-        TStmt::Switch(x, _, _) => asked(s, n, r, a, x, stack, store),
         TStmt::Return(None) => Ok(Focus::Exit(How::Return(None))),
-        TStmt::Return(Some(x)) => asked(s, n, r, a, x, stack, store),
         TStmt::Break => Ok(Focus::Exit(How::Break)),
         TStmt::Continue => Ok(Focus::Exit(How::Continue)),
     }

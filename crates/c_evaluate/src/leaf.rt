@@ -293,11 +293,20 @@ fn leaf_at_once<'a>(s: &Setting<'a>, x: &TExpr, store: &Store<'a>) -> Option<Out
         TKind::Literal(number) => Some(Outcome::Place(s.literal_at(*number))),
         TKind::Global(number) => Some(Outcome::Place(global_at(*number))),
         TKind::Local(number) => local_at_once(local_object(&store.locals, *number as usize)),
-        TKind::Unary(_, _) | TKind::Binary(_, _, _) | TKind::Index(_, _) => None,
-        TKind::Member(_, _) | TKind::Arrow(_, _) | TKind::Cast(_) => None,
-        TKind::Assign(_, _, _) | TKind::Step(_, _) => None,
-        TKind::Call(_, _) | TKind::In(_) | TKind::Out(_, _) => None,
-        TKind::Wait | TKind::Halt | TKind::Card => None,
+        TKind::Unary(_, _)
+        | TKind::Binary(_, _, _)
+        | TKind::Index(_, _)
+        | TKind::Member(_, _)
+        | TKind::Arrow(_, _)
+        | TKind::Cast(_)
+        | TKind::Assign(_, _, _)
+        | TKind::Step(_, _)
+        | TKind::Call(_, _)
+        | TKind::In(_)
+        | TKind::Out(_, _)
+        | TKind::Wait
+        | TKind::Halt
+        | TKind::Card => None,
     }
 }
 
@@ -364,12 +373,12 @@ pub(crate) fn at_once<'a>(s: &Setting<'a>, x: &TExpr, store: &Store<'a>) -> Opti
 /// How many nodes an expression has that came at once: each was evaluated once.
 pub(crate) fn nodes(x: &TExpr) -> u64 {
     match &x.kind {
-        TKind::Unary(_, a) => nodes(a).saturating_add(1),
-        TKind::Member(a, _) => nodes(a).saturating_add(1),
-        TKind::Arrow(a, _) => nodes(a).saturating_add(1),
-        TKind::Cast(a) => nodes(a).saturating_add(1),
-        TKind::Binary(_, a, b) => nodes(a).saturating_add(nodes(b)).saturating_add(1),
-        TKind::Index(a, b) => nodes(a).saturating_add(nodes(b)).saturating_add(1),
+        TKind::Unary(_, a) | TKind::Member(a, _) | TKind::Arrow(a, _) | TKind::Cast(a) => {
+            nodes(a).saturating_add(1)
+        }
+        TKind::Binary(_, a, b) | TKind::Index(a, b) => {
+            nodes(a).saturating_add(nodes(b)).saturating_add(1)
+        }
         TKind::Number(_) | TKind::Null | TKind::Literal(_) | TKind::Global(_) | TKind::Local(_) =>
             1,
         TKind::Assign(_, _, _) | TKind::Step(_, _) => 1,

@@ -3,6 +3,7 @@ ghost use Rattle.std.specs.Prelude.{List};
 ghost use Rattle.c_types.specs.View.{ctype, texpr};
 ghost use Rattle.kit_base.specs.declared.event.Event.TheVariants.{Out};
 ghost use Rattle.obj_mem.specs.Queries.{word_of, truth};
+ghost use Rattle.c_meaning.specs.Kinds.{span_of};
 ghost use Rattle.c_meaning.specs.Operators.{converted};
 ghost use Rattle.c_evaluate.specs.declared.frame.Outcome.TheVariants.{Nothing, Value};
 ghost use Rattle.c_evaluate.specs.inner.Machine.{FrameT, Going, MadeF};
@@ -154,16 +155,20 @@ fn cast<'a>(
 
 /// A word goes out at a port.
 fn output<'a>(
+    s: &Setting<'a>,
+    n: u32,
     port: u32,
-    span: Span,
-    c: Cell,
+    x: &TExpr,
+    v: Outcome,
     stack: &Vec<Frame<'a>>,
-    store: &Store<'a>,
+    store: &mut Store<'a>,
 ) -> Result<Focus<'a>, Stop>
-    ensures { Leads (λ f. at f (stack_of stack.now.items) (store_of store.now)) result
-        (on (at_span span (word_of c)) (λ z. Going (MadeF (Out port z) Nothing) (stack_of stack.now.items) (store_of store.now))) }
+    ensures { Leads (λ f. at f (stack_of stack.now.items) (store_of store.new)) result
+        (on (taken (setting_of s.now) n (texpr x.now) v (store_of store.old)) (λ t.
+        on (at_span (span_of (texpr x.now)) (word_of t.0)) (λ z. Going (MadeF (Out port z) Nothing) (stack_of stack.now.items) t.1))) }
 {
-    let word = located(span, word_of(c))?;
+    let c = taken(s, n, x, v, store)?;
+    let word = located(x.span, word_of(c))?;
     Ok(Focus::Made(Event::Out(port, word), Outcome::Nothing))
 }
 
@@ -233,22 +238,22 @@ fn binary<'a>(
                 second(s, n, of.node, of.right, Cell::Unwritten, stack, store)
             }
         }
-        BinOp::Mul => strict_first(s, n, of, v, stack, store),
-        BinOp::Div => strict_first(s, n, of, v, stack, store),
-        BinOp::Mod => strict_first(s, n, of, v, stack, store),
-        BinOp::Add => strict_first(s, n, of, v, stack, store),
-        BinOp::Sub => strict_first(s, n, of, v, stack, store),
-        BinOp::Shl => strict_first(s, n, of, v, stack, store),
-        BinOp::Shr => strict_first(s, n, of, v, stack, store),
-        BinOp::Less => strict_first(s, n, of, v, stack, store),
-        BinOp::LessEq => strict_first(s, n, of, v, stack, store),
-        BinOp::More => strict_first(s, n, of, v, stack, store),
-        BinOp::MoreEq => strict_first(s, n, of, v, stack, store),
-        BinOp::Equal => strict_first(s, n, of, v, stack, store),
-        BinOp::NotEqual => strict_first(s, n, of, v, stack, store),
-        BinOp::BitAnd => strict_first(s, n, of, v, stack, store),
-        BinOp::BitXor => strict_first(s, n, of, v, stack, store),
-        BinOp::BitOr => strict_first(s, n, of, v, stack, store),
+        BinOp::Mul
+        | BinOp::Div
+        | BinOp::Mod
+        | BinOp::Add
+        | BinOp::Sub
+        | BinOp::Shl
+        | BinOp::Shr
+        | BinOp::Less
+        | BinOp::LessEq
+        | BinOp::More
+        | BinOp::MoreEq
+        | BinOp::Equal
+        | BinOp::NotEqual
+        | BinOp::BitAnd
+        | BinOp::BitXor
+        | BinOp::BitOr => strict_first(s, n, of, v, stack, store),
     }
 }
 
@@ -305,24 +310,23 @@ fn binary_second<'a>(
         (stack_of stack.now.items) (store_of store.old)) }
 {
     match of.op {
-        BinOp::AndAlso => truth_second(s, n, of.right, v, stack, store),
-        BinOp::OrElse => truth_second(s, n, of.right, v, stack, store),
-        BinOp::Mul => combined(s, n, of, c, v, stack, store),
-        BinOp::Div => combined(s, n, of, c, v, stack, store),
-        BinOp::Mod => combined(s, n, of, c, v, stack, store),
-        BinOp::Add => combined(s, n, of, c, v, stack, store),
-        BinOp::Sub => combined(s, n, of, c, v, stack, store),
-        BinOp::Shl => combined(s, n, of, c, v, stack, store),
-        BinOp::Shr => combined(s, n, of, c, v, stack, store),
-        BinOp::Less => combined(s, n, of, c, v, stack, store),
-        BinOp::LessEq => combined(s, n, of, c, v, stack, store),
-        BinOp::More => combined(s, n, of, c, v, stack, store),
-        BinOp::MoreEq => combined(s, n, of, c, v, stack, store),
-        BinOp::Equal => combined(s, n, of, c, v, stack, store),
-        BinOp::NotEqual => combined(s, n, of, c, v, stack, store),
-        BinOp::BitAnd => combined(s, n, of, c, v, stack, store),
-        BinOp::BitXor => combined(s, n, of, c, v, stack, store),
-        BinOp::BitOr => combined(s, n, of, c, v, stack, store),
+        BinOp::AndAlso | BinOp::OrElse => truth_second(s, n, of.right, v, stack, store),
+        BinOp::Mul
+        | BinOp::Div
+        | BinOp::Mod
+        | BinOp::Add
+        | BinOp::Sub
+        | BinOp::Shl
+        | BinOp::Shr
+        | BinOp::Less
+        | BinOp::LessEq
+        | BinOp::More
+        | BinOp::MoreEq
+        | BinOp::Equal
+        | BinOp::NotEqual
+        | BinOp::BitAnd
+        | BinOp::BitXor
+        | BinOp::BitOr => combined(s, n, of, c, v, stack, store),
     }
 }
 
@@ -365,8 +369,13 @@ pub(crate) fn first<'a>(
             Ok(Focus::Outcome(Outcome::Value(z)))
         }
         TKind::Index(x, y) => {
-            let c = taken(s, n, x, v, store)?;
-            second(s, n, e, y, c, stack, store)
+            let of = BinaryNode {
+                op: BinOp::Add,
+                node: e,
+                left: x,
+                right: y,
+            };
+            strict_first(s, n, &of, v, stack, store)
         }
         TKind::Member(x, offset) => member_of(&e.ty, x, e.span, *offset, v, store),
         TKind::Arrow(x, offset) => {
@@ -375,10 +384,7 @@ pub(crate) fn first<'a>(
             Ok(Focus::Outcome(Outcome::Place(q)))
         }
         TKind::Cast(x) => cast(s, n, e, x, v, stack, store),
-        TKind::Out(port, x) => {
-            let c = taken(s, n, x, v, store)?;
-            output(*port, x.span, c, stack, store)
-        }
+        TKind::Out(port, x) => output(s, n, *port, x, v, stack, store),
         TKind::Number(_) | TKind::Null | TKind::Literal(_) | TKind::Global(_) | TKind::Local(_) =>
             Ok(Focus::Outcome(v)),
         TKind::Call(_, _) | TKind::In(_) | TKind::Wait | TKind::Halt | TKind::Card => Ok(
@@ -427,14 +433,17 @@ pub(crate) fn with_second<'a>(
             let q = located(e.span, stepped(s.words(&e.ty), c, d))?;
             Ok(Focus::Outcome(Outcome::Place(q)))
         }
-        TKind::Number(_) | TKind::Null | TKind::Literal(_) | TKind::Global(_) | TKind::Local(_) =>
-            Ok(Focus::Outcome(v)),
-        TKind::Unary(_, _)
+        TKind::Number(_)
+        | TKind::Null
+        | TKind::Literal(_)
+        | TKind::Global(_)
+        | TKind::Local(_)
+        | TKind::Unary(_, _)
         | TKind::Step(_, _)
         | TKind::Member(_, _)
         | TKind::Arrow(_, _)
-        | TKind::Cast(_) => Ok(Focus::Outcome(v)),
-        TKind::Call(_, _)
+        | TKind::Cast(_)
+        | TKind::Call(_, _)
         | TKind::In(_)
         | TKind::Out(_, _)
         | TKind::Wait

@@ -192,11 +192,20 @@ fn returned_of(a: &TStmt) -> Option<&TExpr>
 {
     match a {
         TStmt::Return(Some(x)) => Some(x),
-        TStmt::Return(None) | TStmt::Block(_, _) | TStmt::Empty | TStmt::Vars(_) => None,
-        TStmt::Do(_) | TStmt::If(_, _, None) | TStmt::If(_, _, Some(_)) => None,
-        TStmt::While(_, _) | TStmt::DoWhile(_, _) | TStmt::Switch(_, _, _) => None,
-        TStmt::For(_, None, _, _, _) | TStmt::For(_, Some(_), _, _, _) => None,
-        TStmt::Break | TStmt::Continue => None,
+        TStmt::Return(None)
+        | TStmt::Block(_, _)
+        | TStmt::Empty
+        | TStmt::Vars(_)
+        | TStmt::Do(_)
+        | TStmt::If(_, _, None)
+        | TStmt::If(_, _, Some(_))
+        | TStmt::While(_, _)
+        | TStmt::DoWhile(_, _)
+        | TStmt::For(_, None, _, _, _)
+        | TStmt::For(_, Some(_), _, _, _)
+        | TStmt::Switch(_, _, _)
+        | TStmt::Break
+        | TStmt::Continue => None,
     }
 }
 

@@ -281,7 +281,9 @@ pub(crate) fn outcome_value<'a>(
                 Ok(Focus::Do(of.bound, of.result, other))
             }
         }
-        TStmt::While(x, body) => loops(s, of, x, body, v, stack, store),
+        TStmt::While(x, body)
+        | TStmt::For(_, None, Some(x), _, body)
+        | TStmt::For(_, Some(_), Some(x), _, body) => loops(s, of, x, body, v, stack, store),
         TStmt::DoWhile(body, x) => {
             if tested(s, of.bound, x, v, store)? {
                 do_again(of.bound, of.result, of.tree, body, stack)
@@ -289,8 +291,6 @@ pub(crate) fn outcome_value<'a>(
                 Ok(Focus::Exit(How::On))
             }
         }
-        TStmt::For(_, None, Some(x), _, body) => loops(s, of, x, body, v, stack, store),
-        TStmt::For(_, Some(_), Some(x), _, body) => loops(s, of, x, body, v, stack, store),
         TStmt::Switch(x, made, xs) => {
             let parts = SwitchParts {
                 value: x,
@@ -300,13 +300,14 @@ pub(crate) fn outcome_value<'a>(
             switches(s, of.bound, of.result, &parts, v, stack, store)
         }
         TStmt::Return(Some(x)) => returns(s, of.bound, of.result, x, v, stack, store),
-        TStmt::For(_, None, None, _, _) | TStmt::For(_, Some(_), None, _, _) => Err(Stop::Cause(
-            End::Stray(nowhere()),
-        )),
-        TStmt::Return(None) | TStmt::Block(_, _) | TStmt::Empty | TStmt::Vars(_) => Err(Stop::Cause(
-            End::Stray(nowhere()),
-        )),
-        TStmt::Break | TStmt::Continue => Err(Stop::Cause(End::Stray(nowhere()))),
+        TStmt::For(_, None, None, _, _)
+        | TStmt::For(_, Some(_), None, _, _)
+        | TStmt::Return(None)
+        | TStmt::Block(_, _)
+        | TStmt::Empty
+        | TStmt::Vars(_)
+        | TStmt::Break
+        | TStmt::Continue => Err(Stop::Cause(End::Stray(nowhere()))),
     }
 }
 
@@ -348,32 +349,27 @@ pub(crate) fn with_step<'a>(
         (step_step (setting_of s.now) of.now.bound of.now.result (tstmt of.now.tree.now) v (stack_of stack.old.items) (store_of store.old)) }
 {
     match of.tree {
-        TStmt::For(_, None, test, Some(y), body) => {
+        TStmt::For(_, None, test, Some(y), body) | TStmt::For(_, Some(_), test, Some(y), body) => {
             let turn = Turn {
                 test: test.as_ref(),
                 body,
             };
             stepped(s, of, &turn, y, v, stack, store)
         }
-        TStmt::For(_, Some(_), test, Some(y), body) => {
-            let turn = Turn {
-                test: test.as_ref(),
-                body,
-            };
-            stepped(s, of, &turn, y, v, stack, store)
-        }
-        TStmt::For(_, None, _, None, _) | TStmt::For(_, Some(_), _, None, _) => Err(Stop::Cause(
-            End::Stray(nowhere()),
-        )),
-        TStmt::Block(_, _) | TStmt::Empty | TStmt::Vars(_) | TStmt::Do(_) | TStmt::If(_, _, None) =>
-            Err(Stop::Cause(End::Stray(nowhere()))),
-        TStmt::If(_, _, Some(_))
+        TStmt::For(_, None, _, None, _)
+        | TStmt::For(_, Some(_), _, None, _)
+        | TStmt::Block(_, _)
+        | TStmt::Empty
+        | TStmt::Vars(_)
+        | TStmt::Do(_)
+        | TStmt::If(_, _, None)
+        | TStmt::If(_, _, Some(_))
         | TStmt::While(_, _)
         | TStmt::DoWhile(_, _)
-        | TStmt::Switch(_, _, _) => Err(Stop::Cause(End::Stray(nowhere()))),
-        TStmt::Return(_) | TStmt::Break | TStmt::Continue => Err(Stop::Cause(End::Stray(
-            nowhere(),
-        ))),
+        | TStmt::Switch(_, _, _)
+        | TStmt::Return(_)
+        | TStmt::Break
+        | TStmt::Continue => Err(Stop::Cause(End::Stray(nowhere()))),
     }
 }
 
@@ -393,8 +389,7 @@ fn for_exit<'a>(
         (option_map (λ x. texpr x.now) y.entry) (tstmt body.now) (stack_of stack.old.items) (store_of store.now))) }
 {
     match h {
-        How::On => step(of.bound, of.result, of.tree, test, y, body, stack),
-        How::Continue => step(of.bound, of.result, of.tree, test, y, body, stack),
+        How::On | How::Continue => step(of.bound, of.result, of.tree, test, y, body, stack),
         How::Break => Ok(Focus::Exit(How::On)),
         How::Return(c) => Ok(Focus::Exit(How::Return(c))),
     }
@@ -455,27 +450,30 @@ pub(crate) fn body_exit<'a>(
 {
     match of.tree {
         TStmt::While(x, _) => match h {
-            How::On => while_again(s, of.bound, of.result, of.tree, x, stack, store),
-            How::Continue => while_again(s, of.bound, of.result, of.tree, x, stack, store),
+            How::On | How::Continue => while_again(
+                s, of.bound, of.result, of.tree, x, stack, store,
+            ),
             How::Break => Ok(Focus::Exit(How::On)),
             How::Return(c) => Ok(Focus::Exit(How::Return(c))),
         },
         TStmt::DoWhile(_, x) => match h {
-            How::On => ask(of.bound, of.result, of.tree, x, stack),
-            How::Continue => ask(of.bound, of.result, of.tree, x, stack),
+            How::On | How::Continue => ask(of.bound, of.result, of.tree, x, stack),
             How::Break => Ok(Focus::Exit(How::On)),
             How::Return(c) => Ok(Focus::Exit(How::Return(c))),
         },
-        TStmt::For(_, None, test, y, body) => {
+        TStmt::For(_, None, test, y, body) | TStmt::For(_, Some(_), test, y, body) => {
             for_exit(of, test.as_ref(), y.as_ref(), body, h, stack, store)
         }
-        TStmt::For(_, Some(_), test, y, body) => {
-            for_exit(of, test.as_ref(), y.as_ref(), body, h, stack, store)
-        }
-        TStmt::Block(_, _) | TStmt::Empty | TStmt::Vars(_) | TStmt::Do(_) | TStmt::If(_, _, None) =>
-            Ok(Focus::Exit(h)),
-        TStmt::If(_, _, Some(_)) | TStmt::Switch(_, _, _) | TStmt::Return(_) => Ok(Focus::Exit(h)),
-        TStmt::Break | TStmt::Continue => Ok(Focus::Exit(h)),
+        TStmt::Block(_, _)
+        | TStmt::Empty
+        | TStmt::Vars(_)
+        | TStmt::Do(_)
+        | TStmt::If(_, _, None)
+        | TStmt::If(_, _, Some(_))
+        | TStmt::Switch(_, _, _)
+        | TStmt::Return(_)
+        | TStmt::Break
+        | TStmt::Continue => Ok(Focus::Exit(h)),
     }
 }
 
@@ -491,21 +489,20 @@ pub(crate) fn begin_exit<'a>(
         (begin_step of.now.bound of.now.result (tstmt of.now.tree.now) h (stack_of stack.old.items) (store_of store.now)) }
 {
     match of.tree {
-        TStmt::For(_, None, test, _, body) => for_begun(of, test.as_ref(), body, h, stack, store),
-        TStmt::For(_, Some(_), test, _, body) => for_begun(
-            of,
-            test.as_ref(),
-            body,
-            h,
-            stack,
-            store,
-        ),
-        TStmt::Block(_, _) | TStmt::Empty | TStmt::Vars(_) | TStmt::Do(_) | TStmt::If(_, _, None) =>
-            Ok(Focus::Exit(h)),
-        TStmt::If(_, _, Some(_))
+        TStmt::For(_, None, test, _, body) | TStmt::For(_, Some(_), test, _, body) => {
+            for_begun(of, test.as_ref(), body, h, stack, store)
+        }
+        TStmt::Block(_, _)
+        | TStmt::Empty
+        | TStmt::Vars(_)
+        | TStmt::Do(_)
+        | TStmt::If(_, _, None)
+        | TStmt::If(_, _, Some(_))
         | TStmt::While(_, _)
         | TStmt::DoWhile(_, _)
-        | TStmt::Switch(_, _, _) => Ok(Focus::Exit(h)),
-        TStmt::Return(_) | TStmt::Break | TStmt::Continue => Ok(Focus::Exit(h)),
+        | TStmt::Switch(_, _, _)
+        | TStmt::Return(_)
+        | TStmt::Break
+        | TStmt::Continue => Ok(Focus::Exit(h)),
     }
 }

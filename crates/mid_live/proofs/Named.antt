@@ -8,7 +8,8 @@ use Rattle.mid_code.specs.Functions.{NodeT, ListT, DoN, ChooseN, BlockN, LoopN, 
 use Rattle.mid_code.specs.Live.{Label, label, is_live, is_used, is_target, live_before}
 use Rattle.mid_live.specs.Sets.{on}
 use Rattle.mid_live.specs.declared.heads.Head.{Head}
-use Rattle.mid_live.specs.Heads.{named, list_loops, IsHead, NodeTold, ListTold}
+use Rattle.mid_live.specs.declared.heads.Known.{Known}
+use Rattle.mid_live.specs.Heads.{named, list_loops, IsKnown, NodeTold, ListTold}
 use Rattle.mid_live.specs.inner.Loops.{Inside}
 use Rattle.mid_live.proofs.Raised.{heads}
 
@@ -155,16 +156,15 @@ head_turn true k p g j u e f h = ap (λ z. u || (j && z)) (sym (f refl) ∙ twic
 head_turn false k p g j u e f h = ap (λ z. u || (j && z)) (h refl ∙ ap not (sym e)) ∙ swap u (j && not g)
 
 -- as it was found: what it needs, with nothing behind; what passes, with what it names behind, and z
-pub found_head : (w z : ℕ) (h : Head) (b : ListT ℕ) (passing : List ℕ) → h.inside ≡ list_loops b → ((y : ℕ) → y < 64 * w → on h.names y ≡ named (joined b) y) → (h.known ≡ true → Inside 1 (joined b) × (on h.names z ≡ false) × (on passing z ≡ true)) → z < 64 * w → ((y : ℕ) → y < 64 * w → on h.needs y ≡ is_live y [] (Loop (joined b) Stop) false) → ((y : ℕ) → y < 64 * w → on passing y ≡ is_live y [] (Loop (joined b) Stop) (eqb z y || on h.names y)) → ((y : ℕ) → y < 64 * w → on h.gone y ≡ (on h.names y && not (on passing y))) → IsHead w h b
-found_head w z h b passing count names known l needs is gone = record {
+pub found_head : (w z : ℕ) (h : Known) (b : ListT ℕ) (passing : List ℕ) → h.inside ≡ list_loops b → ((y : ℕ) → y < 64 * w → on h.names y ≡ named (joined b) y) → Inside 1 (joined b) → on h.names z ≡ false → on passing z ≡ true → z < 64 * w → ((y : ℕ) → y < 64 * w → on h.needs y ≡ is_live y [] (Loop (joined b) Stop) false) → ((y : ℕ) → y < 64 * w → on passing y ≡ is_live y [] (Loop (joined b) Stop) (eqb z y || on h.names y)) → ((y : ℕ) → y < 64 * w → on h.gone y ≡ (on h.names y && not (on passing y))) → IsKnown w h b
+found_head w z h b passing count names few taken passes l needs is gone = record {
   inside = count;
-  names = λ k. names;
-  told = λ k y ls j m.
-      let q = known k in
+  names = names;
+  told = λ y ls j m.
       let own : (eqb z z || on h.names z) ≡ true = ap (λ r. r || on h.names z) (eq-eqb z z refl) in
-      let through : is_live z [] (Loop (joined b) Stop) true ≡ true = ap (is_live z [] (Loop (joined b) Stop)) (sym own) ∙ sym (is z l) ∙ q.2 in
-      heads (joined b) q.0 y ls j
-      ∙ head_turn (on h.names y) (on passing y) (is_live y [] (Loop (joined b) Stop) true) (on h.gone y) j (is_live y [] (Loop (joined b) Stop) false) (gone y m) (λ n. is y m ∙ ap (is_live y [] (Loop (joined b) Stop)) (ap (λ r. eqb z y || r) n ∙ last (eqb z y))) (λ n. unnamed y z [] (Loop (joined b) Stop) true (plain (named (joined b) y) (sym (names y m) ∙ n)) (plain (named (joined b) z) (sym (names z l) ∙ q.1)) ∙ through)
+      let through : is_live z [] (Loop (joined b) Stop) true ≡ true = ap (is_live z [] (Loop (joined b) Stop)) (sym own) ∙ sym (is z l) ∙ passes in
+      heads (joined b) few y ls j
+      ∙ head_turn (on h.names y) (on passing y) (is_live y [] (Loop (joined b) Stop) true) (on h.gone y) j (is_live y [] (Loop (joined b) Stop) false) (gone y m) (λ n. is y m ∙ ap (is_live y [] (Loop (joined b) Stop)) (ap (λ r. eqb z y || r) n ∙ last (eqb z y))) (λ n. unnamed y z [] (Loop (joined b) Stop) true (plain (named (joined b) y) (sym (names y m) ∙ n)) (plain (named (joined b) z) (sym (names z l) ∙ taken)) ∙ through)
       ∙ ap (λ r. (j && not (on h.gone y)) || r) (sym (needs y m));
 }
   where
@@ -175,21 +175,13 @@ found_head w z h b passing count names known l needs is gone = record {
     plain : (a : Bool) → a ≡ false → (a || false) ≡ false
     plain a e = ap (λ r. r || false) e
 
--- nothing but how many are inside
-pub unknown_head : (w : ℕ) (h : Head) (b : ListT ℕ) → h.inside ≡ list_loops b → h.known ≡ false → IsHead w h b
-unknown_head w h b count e = record {
-  inside = count;
-  names = λ k. absurd (false≢true (sym e ∙ k));
-  told = λ k. absurd (false≢true (sym e ∙ k));
-}
-
 -- ---- the set became what is live at the head
 
-pub passed_live : (w : ℕ) (h : Head) (b : ListT ℕ) (old mid new : List ℕ) → IsHead w h b → h.known ≡ true → length old ≡ w → length mid ≡ length old → ((y : ℕ) → y < 64 * length old → on mid y ≡ (on old y && not (on h.gone y))) → ((y : ℕ) → y < 64 * length mid → on new y ≡ (on mid y || on h.needs y)) → (y : ℕ) (ls : List Label) → y < 64 * length old → on new y ≡ is_live y ls (Loop (joined b) Stop) (on old y)
-passed_live w h b old mid new is known l m gone needs y ls i = needs y (omega (arith, i, m)) ∙ ap (λ z. z || on h.needs y) (gone y i) ∙ sym (is.told known y ls (on old y) (omega (arith, i, l)))
+pub passed_live : (w : ℕ) (h : Known) (b : ListT ℕ) (old mid new : List ℕ) → IsKnown w h b → length old ≡ w → length mid ≡ length old → ((y : ℕ) → y < 64 * length old → on mid y ≡ (on old y && not (on h.gone y))) → ((y : ℕ) → y < 64 * length mid → on new y ≡ (on mid y || on h.needs y)) → (y : ℕ) (ls : List Label) → y < 64 * length old → on new y ≡ is_live y ls (Loop (joined b) Stop) (on old y)
+passed_live w h b old mid new is l m gone needs y ls i = needs y (omega (arith, i, m)) ∙ ap (λ z. z || on h.needs y) (gone y i) ∙ sym (is.told y ls (on old y) (omega (arith, i, l)))
 
-pub named_loop : (w : ℕ) (h : Head) (b : ListT ℕ) (old new : List ℕ) → IsHead w h b → h.known ≡ true → length old ≡ w → ((y : ℕ) → y < 64 * length old → on new y ≡ (on old y || on h.names y)) → (y : ℕ) → y < 64 * length old → on new y ≡ (named (joined b) y || on old y)
-named_loop w h b old new is k l all y i = all y i ∙ ap (λ z. on old y || z) (is.names k y (omega (arith, i, l))) ∙ swap (on old y) (named (joined b) y)
+pub named_loop : (w : ℕ) (h : Known) (b : ListT ℕ) (old new : List ℕ) → IsKnown w h b → length old ≡ w → ((y : ℕ) → y < 64 * length old → on new y ≡ (on old y || on h.names y)) → (y : ℕ) → y < 64 * length old → on new y ≡ (named (joined b) y || on old y)
+named_loop w h b old new is l all y i = all y i ∙ ap (λ z. on old y || z) (is.names y (omega (arith, i, l))) ∙ swap (on old y) (named (joined b) y)
 
 -- ---- what is told of the loops inside
 

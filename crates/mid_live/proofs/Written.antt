@@ -1,12 +1,12 @@
 -- Words that are held, and their bits.
-use Rattle.std.proofs.Common.{◌≡◌, ◌≢◌, ℕ, zero, suc, ◌+◌, ◌*◌, ◌/◌, ◌%◌, ◌^◌, ◌<◌, ◌≤◌, ◌⊎◌, inl, inr, Bool, true, false, ◌||◌, ◌&&◌, not, eqb, ltb, cond, List, [], ◌∷◌, ◌++◌, length, get_or, set, replicate, bit_and, bit_or, refl, ap, sym, subst, ◌∙◌, arith, w64}
+use Rattle.std.proofs.Common.{◌≡◌, ◌≢◌, ℕ, zero, suc, ◌+◌, ◌*◌, ◌/◌, ◌%◌, ◌^◌, ◌<◌, ◌≤◌, ◌⊎◌, inl, inr, Bool, true, false, ◌||◌, ◌&&◌, not, eqb, ltb, cond, List, [], ◌∷◌, ◌++◌, length, get_or, set, replicate, Option, Some, None, IfSome, bit_and, bit_or, refl, ap, sym, subst, ◌∙◌, arith, w64}
 use Rattle.std.specs.Int.{bit_not}
 use Rattle.std.proofs.lemmas.Bool.{eq-eqb, ne_eqb, ltb-true, ltb-false, false≢true}
 use Rattle.std.proofs.lemmas.List.{ext_get_or, get_or_past, length-set}
 use Rattle.mid_live.specs.declared.words.Held.{Held}
 use Rattle.mid_code.specs.Live.{is_among}
 use Rattle.mid_live.specs.Sets.{on, room}
-use Rattle.mid_live.specs.inner.Words.{bit, some, IsHeld, FreshIn, spread}
+use Rattle.mid_live.specs.inner.Words.{bit, some, held_in, IsHeld, FreshIn, spread}
 use Rattle.mid_live.proofs.Bits.{eq_or, lt_or, small, within, zeros, get_set, no_bit, bit_on, or_bit, less_bit, none_left}
 
 -- ---- held words
@@ -132,6 +132,17 @@ copied_all ws n es h c =
     let size : length (spread (replicate (length ws) 0) es) ≡ length ws = spread_long (replicate (length ws) 0) es ∙ long (length ws) in
     ext_get_or 0 (spread (replicate (length ws) 0) es) ws size (λ i l. c.done i (omega (arith, l, size, h)))
 
+-- nothing is written down, and so no word before is other than 0
+pub copied_before : (ws : List ℕ) (n : ℕ) → Copied ws n [] → (j : ℕ) → j < n → get_or ws j 0 ≡ 0
+copied_before ws n c j h = sym (c.done j h) ∙ zeros (length ws) j
+
+pub copied_nothing : (ws : List ℕ) (n : ℕ) → length ws ≤ n → ((j : ℕ) → j < n → get_or ws j 0 ≡ 0) → replicate (length ws) 0 ≡ ws
+copied_nothing ws n h none = ext_get_or 0 (replicate (length ws) 0) ws (long (length ws)) (λ i l. zeros (length ws) i ∙ sym (none i (let a = long (length ws) in omega (arith, l, h, a))))
+
+pub copied_first : (ws hs : List ℕ) (e : Held) → IsHeld ws hs → e.at < length ws → e.word ≡ get_or ws e.at 0 → ((j : ℕ) → j < e.at → get_or ws j 0 ≡ 0) → Copied ws (e.at + 1) (e ∷ [])
+copied_first ws hs e g inside is none =
+    copied_more ws hs e.at (e.at + 1) [] e g inside refl is (omega arith) (λ j h l. absurd (omega (arith, h, l))) (record { fresh = tt; done = λ j h. zeros (length ws) j ∙ sym (none j h); left = λ j h. zeros (length ws) j })
+
 -- ---- words made 0
 
 pub record Zeroed (old ws hs : List ℕ) (n : ℕ) : Type 0 where
@@ -229,6 +240,14 @@ fresh_few n ws (e ∷ es) h f (suc i) d l = fresh_few n (set ws e.at e.word) es 
 pub kept_few : (n : ℕ) (es : List Held) → n ≤ 0x4000000 → FreshIn (replicate n 0) es → (i : ℕ) (d : Held) → i < length es → (get_or es i d).at < 0x4000000
 kept_few n es h f = fresh_few 0x4000000 (replicate n 0) es (let a = long n in omega (arith, a, h)) f
 
+pub kept_first : (n : ℕ) (first : Option Held) (es : List Held) → n ≤ 0x4000000 → FreshIn (replicate n 0) (held_in first es) → IfSome first (λ e. e.at < 0x4000000)
+kept_first n None es h f = tt
+kept_first n (Some e) es h f = kept_few n (e ∷ es) h f 0 e (omega arith)
+
+pub kept_others : (n : ℕ) (first : Option Held) (es : List Held) → n ≤ 0x4000000 → FreshIn (replicate n 0) (held_in first es) → (i : ℕ) (d : Held) → i < length es → (get_or es i d).at < 0x4000000
+kept_others n None es h f i d l = kept_few n es h f i d l
+kept_others n (Some e) es h f i d l = kept_few n (e ∷ es) h f (suc i) d (omega (arith, l))
+
 -- ---- numbers of bits
 
 pub among_more : (xs : List ℕ) (x y : ℕ) → is_among (xs ++ x ∷ []) y ≡ (is_among xs y || eqb x y)
@@ -319,6 +338,34 @@ bits_none at w y old = sym (ap (λ z. is_among old y || (eqb at (y / 64) && (bit
     all false true false = refl
     all false false c = refl
 
+-- bits that a word has not, up to one that is looked at next
+pub bits_skipped : (at w b n y : ℕ) (m : Bool) → b ≤ n → ((j : ℕ) → b ≤ j → j < n → on (w ∷ []) j ≡ false) → (m || (eqb at (y / 64) && (bit w (y % 64) && ltb (y % 64) b))) ≡ (m || (eqb at (y / 64) && (bit w (y % 64) && ltb (y % 64) n)))
+bits_skipped at w b n y m up none = ap (λ z. m || (eqb at (y / 64) && z)) (go (lt_or (y % 64) b) (lt_or (y % 64) n))
+  where
+    low : (a b : ℕ) → a < b → ltb a b ≡ true
+    low a b h = grind (arith, h)
+
+    high : (a b : ℕ) → b ≤ a → ltb a b ≡ false
+    high a b h = grind (arith, h)
+
+    go : (y % 64 < b) ⊎ (b ≤ y % 64) → (y % 64 < n) ⊎ (n ≤ y % 64) → (bit w (y % 64) && ltb (y % 64) b) ≡ (bit w (y % 64) && ltb (y % 64) n)
+    go (inl l) r = ap (λ z. bit w (y % 64) && z) (low (y % 64) b l ∙ sym (low (y % 64) n (omega (arith, l, up))))
+    go (inr g) (inr k) = ap (λ z. bit w (y % 64) && z) (high (y % 64) b g ∙ sym (high (y % 64) n k))
+    go (inr g) (inl l) =
+        let h = small y in
+        let here : bit w (y % 64) ≡ on (w ∷ []) (y % 64) = ap (bit w) (omega (arith, h)) ∙ bit_on (w ∷ []) 0 (y % 64) (omega (arith, h)) in
+        let off : bit w (y % 64) ≡ false = here ∙ none (y % 64) g l in
+        ap (λ z. z && ltb (y % 64) b) off ∙ sym (ap (λ z. z && ltb (y % 64) n) off)
+
+pub bits_begun : (at w n y : ℕ) (old : List ℕ) → ((j : ℕ) → 0 ≤ j → j < n → on (w ∷ []) j ≡ false) → is_among old y ≡ (is_among old y || (eqb at (y / 64) && (bit w (y % 64) && ltb (y % 64) n)))
+bits_begun at w n y old none = bits_none at w y old ∙ bits_skipped at w 0 n y (is_among old y) (omega arith) none
+
+pub bits_on : (at w b n y : ℕ) (old xs new : List ℕ) → at < 0x4000000 → b < 64 → bit w b ≡ true → new ≡ xs ++ (64 * at + b) % 2 ^ 32 ∷ [] → b + 1 ≤ n → ((j : ℕ) → b + 1 ≤ j → j < n → on (w ∷ []) j ≡ false) → is_among xs y ≡ (is_among old y || (eqb at (y / 64) && (bit w (y % 64) && ltb (y % 64) b))) → is_among new y ≡ (is_among old y || (eqb at (y / 64) && (bit w (y % 64) && ltb (y % 64) n)))
+bits_on at w b n y old xs new f h is more up none e = bits_found at w b y old xs new f h is more e ∙ bits_skipped at w (b + 1) n y (is_among old y) up none
+
+pub bits_over : (at w b n y : ℕ) (old xs : List ℕ) → b < 64 → bit w b ≡ false → b + 1 ≤ n → ((j : ℕ) → b + 1 ≤ j → j < n → on (w ∷ []) j ≡ false) → is_among xs y ≡ (is_among old y || (eqb at (y / 64) && (bit w (y % 64) && ltb (y % 64) b))) → is_among xs y ≡ (is_among old y || (eqb at (y / 64) && (bit w (y % 64) && ltb (y % 64) n)))
+bits_over at w b n y old xs h is up none e = bits_passed at w b y old xs h is e ∙ bits_skipped at w (b + 1) n y (is_among old y) up none
+
 pub bits_all : (at w y b : ℕ) (old xs : List ℕ) → 64 ≤ b → is_among xs y ≡ (is_among old y || (eqb at (y / 64) && (bit w (y % 64) && ltb (y % 64) b))) → is_among xs y ≡ (is_among old y || (eqb at (y / 64) && bit w (y % 64)))
 bits_all at w y b old xs h e = e ∙ ap (λ z. is_among old y || (eqb at (y / 64) && z)) (ap (λ z. bit w (y % 64) && z) (always (y % 64) (small y)) ∙ and_true (bit w (y % 64)))
   where
@@ -377,4 +424,4 @@ restored n m ws new es e l is = (let same : n ≡ m = sym l ∙ e ∙ spread_lon
 
 pub ruleset copied = (copied_none, copied_same, copied_more, copied_all)
 
-pub ruleset placed_bits = (bits_none, bits_found, bits_passed, bits_all)
+pub ruleset placed_bits = (bits_begun, bits_on, bits_over, bits_all)

@@ -1,10 +1,12 @@
 -- Loops in the order of a walk from the end, and what a table tells of their heads.
-use Rattle.std.specs.Prelude.{◌≡◌, ℕ, suc, ◌+◌, ◌*◌, ◌<◌, List, length, get_or, Bool, true, false, not, ◌||◌, ◌&&◌}
+use Rattle.std.specs.Prelude.{◌≡◌, ℕ, suc, ◌+◌, ◌*◌, ◌<◌, List, length, get_or, Bool, false, not, ◌||◌, ◌&&◌}
 use Rattle.mid_code.specs.Code.{NodesT, Stop, Do, Call, Choose, Block, Loop, Leave, Again, Return}
 use Rattle.mid_code.specs.Functions.{NodeT, ListT, DoN, ChooseN, BlockN, LoopN, LeaveN, AgainN, ReturnN, NoN, MoreN, joined}
 use Rattle.mid_code.specs.Live.{Label, is_live, is_used, is_target}
 use Rattle.mid_live.specs.Sets.{on}
+use Rattle.mid_live.specs.declared.heads.Known.{Known}
 use Rattle.mid_live.specs.declared.heads.Head.{Head}
+use Rattle.mid_live.specs.declared.heads.Head.TheVariants as head
 
 abbrev mutual
   -- how many loops there are
@@ -33,13 +35,17 @@ named (Leave k c) y = named c y
 named (Again k c) y = named c y
 named (Return p c) y = is_used (Return p c) y || named c y
 
--- What is told of a loop with the body `b`, of the temporaries of `w` words: how many loops it has, and, where it is known, what it names, and
--- that live at its head are those that it needs, and those that are live behind it and not gone.
-pub record IsHead (w : ℕ) (h : Head) (b : ListT ℕ) : Type 0 where
+-- What is known of a loop with the body `b`, of the temporaries of `w` words: how many loops it has, what it names, and that live at its head are those
+-- that it needs, and those that are live behind it and not gone.
+pub record IsKnown (w : ℕ) (h : Known) (b : ListT ℕ) : Type 0 where
   pub inside : h.inside ≡ list_loops b
-  pub names : h.known ≡ true → (y : ℕ) → y < 64 * w → on h.names y ≡ named (joined b) y
-  pub told : h.known ≡ true → (y : ℕ) (ls : List Label) (j : Bool) → y < 64 * w
-      → is_live y ls (Loop (joined b) Stop) j ≡ ((j && not (on h.gone y)) || on h.needs y)
+  pub names : (y : ℕ) → y < 64 * w → on h.names y ≡ named (joined b) y
+  pub told : (y : ℕ) (ls : List Label) (j : Bool) → y < 64 * w → is_live y ls (Loop (joined b) Stop) j ≡ ((j && not (on h.gone y)) || on h.needs y)
+
+-- what is told of it: what is known, or only how many loops it has
+abbrev pub IsHead : ℕ → Head → ListT ℕ → Type 0
+IsHead w (head.Unknown n) b = n ≡ list_loops b
+IsHead w (head.Known h) b = IsKnown w h.value b
 
 -- The entries from k on are those of the loops of a node, or of a list, the last loop first, each before those inside it.
 abbrev mutual

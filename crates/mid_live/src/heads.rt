@@ -9,17 +9,23 @@ ghost use Rattle.mid_live.specs.declared.heads.Head.{Head};
 use crate::live::{Kept, Live};
 use kit_base::Memory;
 use mid_code::Node;
-use std::alloc::Global;
 
-/// What is told of a loop: how many stand inside it. Where it is known, also what it names, and that what is live at its head is what it needs, and what
-/// is live behind it and not gone. A slice of them is told of the loops of nodes, the last loop first, each before those inside it.
+/// What is known of a loop: how many stand inside it, what it names, and that what is live at its head is what it needs, and what is live behind it and
+/// not gone.
 #[derive(Drop)]
-pub struct Head {
-    pub(crate) known: bool,
+pub struct Known {
     pub(crate) inside: usize,
     pub(crate) names: Kept,
     pub(crate) gone: Kept,
     pub(crate) needs: Kept,
+}
+
+/// What is told of a loop: only how many stand inside it, or what is known of it, which lies in a box, so that a table of many loops is small. A slice of
+/// them is told of the loops of nodes, the last loop first, each before those inside it.
+#[derive(Drop)]
+pub enum Head {
+    Unknown(usize),
+    Known(Box<Known>),
 }
 
 /// The number behind one, and behind so many.
@@ -54,15 +60,13 @@ pub(crate) fn pass_loop(
     ensures len { OnOk result (length s.new ≡ length s.old) }
     ensures passed { IfOk result (λ o. Passed at (listed (map node b.now)) s.old s.new o) }
 {
-    let h = &heads[at];
-    let known = h.known;
-    if !known {
+    let Head::Known(known) = &heads[at] else {
         return Ok(None);
-    }
-    s.leave(&h.gone);
-    s.join(&h.needs);
+    };
+    s.leave(&known.gone);
+    s.join(&known.needs);
     let first = one_further(at)?;
-    let behind = further(first, h.inside)?;
+    let behind = further(first, known.inside)?;
     Ok(Some(behind))
 }
 
@@ -75,26 +79,12 @@ pub fn told_each(ns: &[Node<u32>], i: usize, s: &Live, heads: &[Head], next: usi
     ensures { (x : Node ℕ) → x ≡ get_or ns.now i x → NodeTold (length s.now) heads.now after (node x) }
 {}
 
-/// A loop with so many inside, of which nothing else is known.
-pub(crate) fn unknown(alloc: Global, inside: usize) -> Head
-    ensures known { result.known ≡ false }
-    ensures inside { result.inside ≡ inside }
-{
-    Head {
-        known: false,
-        inside,
-        names: Kept::none(alloc),
-        gone: Kept::none(alloc),
-        needs: Kept::none(alloc),
-    }
-}
-
 /// A loop more, of which nothing is known.
-pub(crate) fn push_unknown(alloc: Global, heads: &mut Vec<Head>) -> Result<(), Memory>
+pub(crate) fn push_unknown(heads: &mut Vec<Head>) -> Result<(), Memory>
     ensures more { OnOk result (take (length heads.old.items) heads.new.items ≡ heads.old.items) }
     ensures len { OnOk result (length heads.new.items ≡ suc (length heads.old.items)) }
 {
-    heads.push(unknown(alloc, 0))?;
+    heads.push(Head::Unknown(0))?;
     Ok(())
 }
 

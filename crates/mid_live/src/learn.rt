@@ -9,7 +9,7 @@ ghost use Rattle.mid_live.specs.Heads.{named, node_loops, list_loops, IsHead, No
 ghost use Rattle.mid_live.specs.inner.Loops.{Inside};
 ghost use Rattle.mid_live.specs.declared.heads.Head.{Head};
 
-use crate::heads::{Head, push_unknown, put_head, unknown};
+use crate::heads::{Head, Known, push_unknown, put_head};
 use crate::labels::{nested, outside};
 use crate::live::{Kept, Live};
 use crate::names::name_nodes;
@@ -147,7 +147,7 @@ fn head_in(
 {
     let inside = heads.len() - first;
     if !asked {
-        return Ok(unknown(alloc, inside));
+        return Ok(Head::Unknown(inside));
     }
     let names = names_in(alloc, b, s, heads, first)?;
     let taken = s.has(spare);
@@ -155,13 +155,19 @@ fn head_in(
     let passing = passing_in(alloc, b, s, &names, spare, heads, first)?;
     let passes = s.has(spare);
     let gone = less(alloc, &names, &passing, s)?;
-    Ok(Head {
-        known: is_known(taken, passes),
-        inside,
-        names,
-        gone,
-        needs,
-    })
+    if !is_known(taken, passes) {
+        return Ok(Head::Unknown(inside));
+    }
+    let known = Box::new(
+        alloc,
+        Known {
+            inside,
+            names,
+            gone,
+            needs,
+        },
+    )?;
+    Ok(Head::Known(known))
 }
 
 /// Adds what is told of the loops of a node. The answer is how many of the enclosing blocks and loops it may leave or begin anew. The set is changed;
@@ -195,7 +201,7 @@ fn learn_node(
         }
         Node::Loop(b) => {
             let at = heads.len();
-            push_unknown(alloc, heads)?;
+            push_unknown(heads)?;
             let first = heads.len();
             let inside = learn_nodes(alloc, b.as_slice(), s, spare, heads, false)?;
             let asked = is_asked(outermost, inside);

@@ -1,6 +1,6 @@
 // A set of temporaries that is changed in place, and what it was at some point.
 use crate::marked::{
-    clear_marked, copied, join_words, leave_words, put_marked, restore_words, strike_marked,
+    clear_marked, copied, join_all, leave_all, put_marked, restore_words, strike_marked,
 };
 use crate::marks::Marks;
 use crate::words::{Held, gone_from, has_bit};
@@ -27,11 +27,12 @@ impl Model for Live {
     ghost invariant = { λ s. IsHeld s.words.items s.marks };
 }
 
-/// What a set was.
+/// What a set was. Its first word that is not 0 stands apart from the others, so that a copy of few temporaries takes no memory of its own.
 #[derive(Drop)]
 pub struct Kept {
     len: usize,
-    words: Vec<Held>,
+    first: Option<Held>,
+    others: Vec<Held>,
 }
 
 impl Model for Kept {
@@ -39,11 +40,11 @@ impl Model for Kept {
 
     ghost Value = { List ℕ };
 
-    ghost use Rattle.mid_live.specs.inner.Words.{FreshIn, spread};
+    ghost use Rattle.mid_live.specs.inner.Words.{held_in, FreshIn, spread};
 
-    ghost view = { λ k. spread (replicate k.len 0) k.words.items };
+    ghost view = { λ k. spread (replicate k.len 0) (held_in k.first k.others.items) };
 
-    ghost invariant = { λ k. (k.len ≤ 0x400_0000) × FreshIn (replicate k.len 0) k.words.items };
+    ghost invariant = { λ k. (k.len ≤ 0x400_0000) × FreshIn (replicate k.len 0) (held_in k.first k.others.items) };
 }
 
 ghost use Rattle.std.specs.Prelude.{◌≡◌, ℕ, ◌<◌, ◌≤◌, ◌||◌, ◌&&◌, not, false, cond, eqb, length, IfOk};
@@ -101,7 +102,8 @@ impl Live {
         ensures len { length self.new ≡ length self.old }
         ensures is { (y : ℕ) → y < room self.old → on self.new y ≡ (on self.old y || on other.now y) }
     {
-        join_words(&mut self.words, &mut self.marks, other.words.as_slice());
+        let others = other.others.as_slice();
+        join_all(&mut self.words, &mut self.marks, other.first, others);
     }
 
     /// Takes out what another set had.
@@ -109,7 +111,8 @@ impl Live {
         ensures len { length self.new ≡ length self.old }
         ensures is { (y : ℕ) → y < room self.old → on self.new y ≡ (on self.old y && not (on other.now y)) }
     {
-        leave_words(&mut self.words, &mut self.marks, other.words.as_slice());
+        let others = other.others.as_slice();
+        leave_all(&mut self.words, &mut self.marks, other.first, others);
     }
 
     /// Makes it what another set was, which may have room for fewer or for more.
@@ -126,7 +129,8 @@ impl Live {
         requires len { length self.old ≡ length was.now }
         ensures { self.new ≡ was.now }
     {
-        restore_words(&mut self.words, &mut self.marks, was.words.as_slice());
+        let others = was.others.as_slice();
+        restore_words(&mut self.words, &mut self.marks, was.first, others);
     }
 
     /// What the set is now.
@@ -134,8 +138,8 @@ impl Live {
         ensures { IfOk result (λ k. k ≡ self.now) }
     {
         let len = self.words.len();
-        let words = copied(alloc, self.words.as_slice(), &self.marks)?;
-        Ok(Kept { len, words })
+        let (first, others) = copied(alloc, self.words.as_slice(), &self.marks)?;
+        Ok(Kept { len, first, others })
     }
 }
 
@@ -146,7 +150,8 @@ impl Kept {
     {
         Kept {
             len: 0,
-            words: Vec::new(alloc),
+            first: None,
+            others: Vec::new(alloc),
         }
     }
 
@@ -154,7 +159,8 @@ impl Kept {
     pub fn less(&self, alloc: Global, other: &Live) -> Result<Vec<u32>, Memory>
         ensures { IfOk result (λ v. (y : ℕ) → is_among v.items y ≡ (on self.now y && not (on other.now y))) }
     {
-        let found = gone_from(alloc, self.words.as_slice(), other.words.as_slice())?;
+        let others = self.others.as_slice();
+        let found = gone_from(alloc, self.first, others, other.words.as_slice())?;
         Ok(found)
     }
 }

@@ -1,8 +1,8 @@
 // Words of bits, with marks of those that may be other than 0.
-ghost use Rattle.std.specs.Prelude.{◌≡◌, ℕ, ◌*◌, ◌/◌, ◌%◌, ◌<◌, ◌||◌, ◌&&◌, not, false, cond, eqb, length, get_or, replicate};
+ghost use Rattle.std.specs.Prelude.{◌≡◌, ◌∷◌, ℕ, ◌*◌, ◌/◌, ◌%◌, ◌<◌, ◌||◌, ◌&&◌, not, false, cond, eqb, length, get_or, replicate};
 ghost use Rattle.std.specs.Prelude.{slice_set, IfOk};
 ghost use Rattle.mid_live.specs.Sets.{on, room};
-ghost use Rattle.mid_live.specs.inner.Words.{bit, some, IsHeld, FreshIn, spread};
+ghost use Rattle.mid_live.specs.inner.Words.{bit, some, held_in, IsHeld, FreshIn, spread};
 
 use crate::marks::Marks;
 use crate::words::{Held, put_bit, strike_bit, word, write};
@@ -37,15 +37,39 @@ pub(crate) fn strike_marked(words: &mut Vec<u64>, marks: &mut Marks, x: usize)
     }
 }
 
-/// The words that are not 0, in ascending order.
+/// The number of the first word that is not 0, or one behind all.
 #[tactic(auto, using(crate::proofs::Written::copied))]
-pub(crate) fn copied(alloc: Global, words: &[u64], marks: &Marks) -> Result<Vec<Held>, Memory>
+fn first_held(words: &[u64], marks: &Marks) -> usize
     requires held { IsHeld words.now marks.now }
-    ensures fresh { IfOk result (λ v. FreshIn (replicate (length words.now) 0) v.items) }
-    ensures is { IfOk result (λ v. spread (replicate (length words.now) 0) v.items ≡ words.now) }
+    ensures { (j : ℕ) → j < result → get_or words.now j 0 ≡ 0 }
+{
+    let mut i = marks.next(0);
+    'words: while i < words.len() {
+        if words[i] != 0 {
+            return i;
+        }
+        i = marks.next(i + 1);
+    }
+    i
+}
+
+/// The words that are not 0 behind the first one, in ascending order.
+#[tactic(auto, using(crate::proofs::Written::copied, crate::proofs::Written::copied_first))]
+fn copied_behind(
+    alloc: Global,
+    words: &[u64],
+    marks: &Marks,
+    first: Held,
+) -> Result<Vec<Held>, Memory>
+    requires held { IsHeld words.now marks.now }
+    requires inside { first.at < length words.now }
+    requires word { first.word ≡ get_or words.now first.at 0 }
+    requires before { (j : ℕ) → j < first.at → get_or words.now j 0 ≡ 0 }
+    ensures fresh { IfOk result (λ v. FreshIn (replicate (length words.now) 0) (first ∷ v.items)) }
+    ensures is { IfOk result (λ v. spread (replicate (length words.now) 0) (first ∷ v.items) ≡ words.now) }
 {
     let mut found = Vec::new(alloc);
-    let mut i = marks.next(0);
+    let mut i = first.at + 1;
     'words: while i < words.len() {
         let at = i;
         i = marks.next(at + 1);
@@ -57,6 +81,29 @@ pub(crate) fn copied(alloc: Global, words: &[u64], marks: &Marks) -> Result<Vec<
         }
     }
     Ok(found)
+}
+
+/// The words that are not 0, in ascending order, the first one apart, so that one word takes no memory.
+#[tactic(auto, using(crate::proofs::Written::copied_nothing))]
+pub(crate) fn copied(
+    alloc: Global,
+    words: &[u64],
+    marks: &Marks,
+) -> Result<(Option<Held>, Vec<Held>), Memory>
+    requires held { IsHeld words.now marks.now }
+    ensures fresh { IfOk result (λ v. FreshIn (replicate (length words.now) 0) (held_in v.0 v.1.items)) }
+    ensures is { IfOk result (λ v. spread (replicate (length words.now) 0) (held_in v.0 v.1.items) ≡ words.now) }
+{
+    let at = first_held(words, marks);
+    if at >= words.len() {
+        return Ok((None, Vec::new(alloc)));
+    }
+    let first = Held {
+        at,
+        word: words[at],
+    };
+    let rest = copied_behind(alloc, words, marks, first)?;
+    Ok((Some(first), rest))
 }
 
 #[tactic(auto, using(crate::proofs::Written::zeroed_none, crate::proofs::Written::zeroed_more, crate::proofs::Written::zeroed_all))]
@@ -100,7 +147,7 @@ fn join_word(words: &mut Vec<u64>, marks: &mut Marks, e: Held)
 
 /// The bits of words put in.
 #[tactic(auto, using(crate::proofs::Written::or_both))]
-pub(crate) fn join_words(words: &mut Vec<u64>, marks: &mut Marks, es: &[Held])
+fn join_words(words: &mut Vec<u64>, marks: &mut Marks, es: &[Held])
     requires held { IsHeld words.old.items marks.old }
     ensures held { IsHeld words.new.items marks.new }
     ensures len { length words.new.items ≡ length words.old.items }
@@ -109,6 +156,20 @@ pub(crate) fn join_words(words: &mut Vec<u64>, marks: &mut Marks, es: &[Held])
     for e in es {
         join_word(words, marks, *e);
     }
+}
+
+/// The same, with the first one apart.
+#[tactic(auto, using(crate::proofs::Written::or_both))]
+pub(crate) fn join_all(words: &mut Vec<u64>, marks: &mut Marks, first: Option<Held>, es: &[Held])
+    requires held { IsHeld words.old.items marks.old }
+    ensures held { IsHeld words.new.items marks.new }
+    ensures len { length words.new.items ≡ length words.old.items }
+    ensures is { (y : ℕ) → y < room words.old.items → on words.new.items y ≡ (on words.old.items y || some (held_in first es.now) y) }
+{
+    if let Some(e) = first {
+        join_word(words, marks, e);
+    }
+    join_words(words, marks, es);
 }
 
 /// The bits of a word taken out.
@@ -126,7 +187,7 @@ fn leave_word(words: &mut Vec<u64>, marks: &mut Marks, e: Held)
 
 /// The bits of words taken out.
 #[tactic(auto, using(crate::proofs::Written::neither))]
-pub(crate) fn leave_words(words: &mut Vec<u64>, marks: &mut Marks, es: &[Held])
+fn leave_words(words: &mut Vec<u64>, marks: &mut Marks, es: &[Held])
     requires held { IsHeld words.old.items marks.old }
     ensures held { IsHeld words.new.items marks.new }
     ensures len { length words.new.items ≡ length words.old.items }
@@ -135,6 +196,20 @@ pub(crate) fn leave_words(words: &mut Vec<u64>, marks: &mut Marks, es: &[Held])
     for e in es {
         leave_word(words, marks, *e);
     }
+}
+
+/// The same, with the first one apart.
+#[tactic(auto, using(crate::proofs::Written::neither))]
+pub(crate) fn leave_all(words: &mut Vec<u64>, marks: &mut Marks, first: Option<Held>, es: &[Held])
+    requires held { IsHeld words.old.items marks.old }
+    ensures held { IsHeld words.new.items marks.new }
+    ensures len { length words.new.items ≡ length words.old.items }
+    ensures is { (y : ℕ) → y < room words.old.items → on words.new.items y ≡ (on words.old.items y && not (some (held_in first es.now) y)) }
+{
+    if let Some(e) = first {
+        leave_word(words, marks, e);
+    }
+    leave_words(words, marks, es);
 }
 
 /// A word in place of another.
@@ -148,14 +223,31 @@ fn write_word(words: &mut Vec<u64>, marks: &mut Marks, e: Held)
     marks.put(e.at);
 }
 
-/// These words in their places, and 0 elsewhere.
-pub(crate) fn restore_words(words: &mut Vec<u64>, marks: &mut Marks, es: &[Held])
+/// These words in their places.
+fn write_words(words: &mut Vec<u64>, marks: &mut Marks, es: &[Held])
     requires held { IsHeld words.old.items marks.old }
     ensures held { IsHeld words.new.items marks.new }
-    ensures is { words.new.items ≡ spread (replicate (length words.old.items) 0) es.now }
+    ensures is { words.new.items ≡ spread words.old.items es.now }
 {
-    clear_marked(words, marks);
     for e in es {
         write_word(words, marks, *e);
     }
+}
+
+/// These words in their places, and 0 elsewhere.
+pub(crate) fn restore_words(
+    words: &mut Vec<u64>,
+    marks: &mut Marks,
+    first: Option<Held>,
+    es: &[Held],
+)
+    requires held { IsHeld words.old.items marks.old }
+    ensures held { IsHeld words.new.items marks.new }
+    ensures is { words.new.items ≡ spread (replicate (length words.old.items) 0) (held_in first es.now) }
+{
+    clear_marked(words, marks);
+    if let Some(e) = first {
+        write_word(words, marks, e);
+    }
+    write_words(words, marks, es);
 }

@@ -50,14 +50,12 @@ fn name_loop(
     ensures len { OnOk result (length s.new ≡ length s.old) }
     ensures put { IfOk result (λ o. NamesPut at (listed (map node b.now)) s.old s.new o) }
 {
-    let h = &heads[at];
-    let known = h.known;
-    if !known {
+    let Head::Known(known) = &heads[at] else {
         return Ok(None);
-    }
-    s.join(&h.names);
+    };
+    s.join(&known.names);
     let first = one_further(at)?;
-    let behind = further(first, h.inside)?;
+    let behind = further(first, known.inside)?;
     Ok(Some(behind))
 }
 

@@ -1,9 +1,9 @@
 // Words of bits, and which of them may be other than 0.
 ghost use Rattle.std.specs.Prelude.{◌≡◌, ◌≢◌, ℕ, ◌+◌, ◌*◌, ◌/◌, ◌%◌, ◌<◌, ◌≤◌, ◌||◌, ◌&&◌, not, false, cond, eqb, length, get_or, replicate};
-ghost use Rattle.std.specs.Prelude.{slice_set, All, IfOk, OnOk};
+ghost use Rattle.std.specs.Prelude.{slice_set, All, IfOk, OnOk, IfSome};
 ghost use Rattle.mid_code.specs.Live.{is_among};
 ghost use Rattle.mid_live.specs.Sets.{on, room};
-ghost use Rattle.mid_live.specs.inner.Words.{bit, some, IsHeld, FreshIn, spread};
+ghost use Rattle.mid_live.specs.inner.Words.{bit, some, held_in, IsHeld, FreshIn, spread};
 ghost use Rattle.mid_live.specs.declared.words.Held.{Held};
 
 use kit_base::Memory;
@@ -164,16 +164,17 @@ fn is_bit(w: u64, b: usize) -> bool
     (w >> b) & 1 == 1
 }
 
-/// The numbers of the bits of a word.
+/// The numbers of the bits of a word, from one that it has to the next.
 #[tactic(auto, using(crate::proofs::Written::placed_bits))]
 fn push_bits(found: &mut Vec<u32>, at: usize, w: u64) -> Result<(), Memory>
     requires few { at < 0x400_0000 }
     ensures { OnOk result ((y : ℕ) → is_among found.new.items y ≡ (is_among found.old.items y || (eqb at (y / 64) && bit w (y % 64)))) }
 {
-    let mut b = 0;
+    let one = [w];
+    let mut b = next_bit(&one, 0);
     'bits: while b < 64 {
         let k = b;
-        b += 1;
+        b = next_bit(&one, k + 1);
         if is_bit(w, k) {
             found.push((64 * at + k) as u32)?;
         }
@@ -196,15 +197,34 @@ fn push_left(found: &mut Vec<u32>, e: Held, words: &[u64]) -> Result<(), Memory>
     Ok(())
 }
 
+/// Those whose bits stand in words and not in others, behind those found before.
+#[tactic(auto, using(crate::proofs::Written::less_turn))]
+fn push_gone(found: &mut Vec<u32>, es: &[Held], words: &[u64]) -> Result<(), Memory>
+    requires few { All (λ (e : Held). e.at < 0x400_0000) es.now }
+    ensures { OnOk result ((y : ℕ) → is_among found.new.items y ≡ (is_among found.old.items y || (some es.now y && not (on words.now y)))) }
+{
+    for e in es {
+        push_left(found, *e, words)?;
+    }
+    Ok(())
+}
+
 /// Those whose bits stand in the first words and not in the others.
 #[tactic(auto, using(crate::proofs::Written::less_turn))]
-pub(crate) fn gone_from(alloc: Global, es: &[Held], words: &[u64]) -> Result<Vec<u32>, Memory>
+pub(crate) fn gone_from(
+    alloc: Global,
+    first: Option<Held>,
+    es: &[Held],
+    words: &[u64],
+) -> Result<Vec<u32>, Memory>
+    requires first { IfSome first (λ e. e.at < 0x400_0000) }
     requires few { All (λ (e : Held). e.at < 0x400_0000) es.now }
-    ensures { IfOk result (λ v. (y : ℕ) → is_among v.items y ≡ (some es.now y && not (on words.now y))) }
+    ensures { IfOk result (λ v. (y : ℕ) → is_among v.items y ≡ (some (held_in first es.now) y && not (on words.now y))) }
 {
     let mut found = Vec::new(alloc);
-    for e in es {
-        push_left(&mut found, *e, words)?;
+    if let Some(e) = first {
+        push_left(&mut found, e, words)?;
     }
+    push_gone(&mut found, es, words)?;
     Ok(found)
 }

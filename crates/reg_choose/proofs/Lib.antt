@@ -22,3 +22,4 @@ pub mod Collected
 pub mod Numbered
 pub mod Chooser
 pub mod Program
+pub mod Turned

@@ -80,7 +80,7 @@ is_plan ws ms ns i c e = record {
 
 -- ---- no holders
 
-slots_few : (ws : List Where) → length (slots_in ws) ≤ length ws
+pub slots_few : (ws : List Where) → length (slots_in ws) ≤ length ws
 slots_few [] = omega arith
 slots_few (Reg r ∷ ws) = (let a = slots_few ws in omega (arith, a))
 slots_few (Slot k ∷ ws) = (let a = slots_few ws in omega (arith, a))
@@ -107,12 +107,12 @@ chosen_at [] x c = tt
 chosen_at (w ∷ ws) zero c = c.0
 chosen_at (w ∷ ws) (suc x) c = chosen_at ws x c.1
 
-pub none_stands : (ws : List Where) (s : List ℕ) (m : ℕ) → AllPlaces IsChosen ws → length ws ≤ room s → ((y : ℕ) → on s y ≡ false) → m ≡ length ws + 11 → Stands ws s (replicate m 0)
+pub none_stands : (ws : List Where) (s : List ℕ) (m : ℕ) → AllPlaces IsChosen ws → length ws ≤ room s → ((y : ℕ) → on s y ≡ false) → m ≡ length (slots_in ws) + 11 → Stands ws s (replicate m 0)
 unfolding number_at
 none_stands ws s m c r e l = record {
   wide = r;
   nine = (let a = replicate_long m in omega (arith, a, l));
-  numbers = λ x. (let a = replicate_long m in let b = number_most (0 ∷ slots_in ws) (place_of ws x) (chosen_at ws x c) in let d = slots_few ws in omega (arith, a, b, d, l));
+  numbers = λ x. (let a = replicate_long m in let b = number_most (0 ∷ slots_in ws) (place_of ws x) (chosen_at ws x c) in omega (arith, a, b, l));
   holds = λ x h o. absurd (false≢true (sym (e x) ∙ o));
   held = λ k x o. absurd (let a = zeros m k in omega (arith, a, o));
 }

@@ -1,10 +1,10 @@
 -- Places of nodes, and what is live before a choice.
-use Rattle.std.proofs.Common.{◌≡◌, ℕ, suc, ◌+◌, Bool, true, false, ◌||◌, eqb, List, ◌∷◌, refl, ap, sym, ◌∙◌, arith}
+use Rattle.std.proofs.Common.{◌≡◌, ℕ, suc, ◌+◌, Bool, true, false, ◌||◌, eqb, List, [], ◌∷◌, length, map, refl, ap, sym, ◌∙◌, arith}
 use Rattle.mid_code.specs.declared.node.Op.{Op}
 use Rattle.mid_code.specs.declared.node.Op.TheVariants as op
 use Rattle.mid_code.specs.declared.node.Node.{Node}
 use Rattle.mid_code.specs.Code.{NodesT, Stop}
-use Rattle.mid_code.specs.Functions.{NodeT, ListT, DoN, ChooseN, BlockN, LoopN, LeaveN, AgainN, ReturnN, before, joined, op_before, node, nodes}
+use Rattle.mid_code.specs.Functions.{NodeT, ListT, DoN, ChooseN, BlockN, LoopN, LeaveN, AgainN, ReturnN, before, NoN, joined, listed, op_before, node, nodes}
 use Rattle.mid_code.specs.Live.{Label, live_before, is_live}
 use Rattle.mid_code.specs.Spans.{places}
 
@@ -43,6 +43,11 @@ places_node (ReturnN p) c = omega arith
 used_or : (u w : Bool) → (u || w) ≡ live_before (u || false) false w
 used_or true w = refl
 used_or false w = refl
+
+-- a second part without nodes
+pub no_nodes : (ns : List (Node ℕ)) → length ns ≡ 0 → listed (map node ns) ≡ NoN
+no_nodes [] e = refl
+no_nodes (x ∷ ns) e = absurd (omega (arith, e))
 
 pub choose_live : (y : ℕ) (ls : List Label) (x : NodeT ℕ) (p : ℕ) (a b : ListT ℕ) (j s t w v : Bool) → x ≡ ChooseN p a b → s ≡ is_live y ls (joined a) j → t ≡ is_live y ls (joined b) j → w ≡ (s || t) → v ≡ (eqb p y || w) → v ≡ is_live y ls (before x Stop) j
 choose_live y ls x p a b j s t w v e f g h i =

@@ -8,12 +8,13 @@ use Rattle.mid_code.specs.declared.node.Op.{Op}
 use Rattle.mid_code.specs.declared.node.Node.{Node}
 use Rattle.mid_code.specs.Code.{Stop}
 use Rattle.mid_code.specs.Functions.{NodeT, ListT, DoN, ChooseN, BlockN, LoopN, before, joined, op_before, node, nodes, listed}
-use Rattle.mid_code.specs.Live.{live_before, is_live, is_used, is_target}
+use Rattle.mid_code.specs.Live.{label, live_before, is_live, is_used, is_target}
 use Rattle.mid_code.specs.Safe.{place_of, IsSlot}
 use Rattle.mid_live.specs.Sets.{on}
 use Rattle.reg_choose.specs.inner.Checked.{Labels, Set, ApartIn, FreeIn, TargetIn, live_set, in_block, in_loop, InsideChecked, ListChecked}
 use Rattle.reg_choose.specs.inner.Holding.{number_at, Stands, Laid, Made, NodeTried, ListTried}
 use Rattle.mid_live.proofs.Facts.{op_live}
+use Rattle.reg_choose.proofs.Turned.{turn_same}
 use Rattle.reg_choose.proofs.Checking.{Like, unlike, apart_like, list_like, node_like, list_drop, one_more, block_whole, loop_whole}
 use Rattle.reg_choose.proofs.Holders.{same_number, reg_number, number_slot, number_same, stands_apart}
 
@@ -135,15 +136,14 @@ module _ (at : List Where) (ls : Labels) (x : NodeT ℕ) (s new hs : List ℕ) w
   block_tried b ms true e k l = ((λ y h. l.0 y h ∙ ap (λ z. is_live y z (joined b) (on s y)) (k y h) ∙ ap (λ z. live_set ls (before z Stop) (on s) y) (sym e)), l.1, (block_whole (length at) at ls (on s) x b ms e k).1 l.2)
   block_tried b ms false e k l = λ n. l ((block_whole (length at) at ls (on s) x b ms e k).0 n.1)
 
-  pub loop_no : (b : ListT ℕ) (g : Set) (ms : Labels) (mid ks : List ℕ) → x ≡ LoopN b → Like (length at) g (live_set ls (before x Stop) (on s)) → Like (length at) ms (in_loop g (on s) ls) → ListTried at ms b s mid ks false → NodeTried at ls x s new hs false
-  loop_no b g ms mid ks e j k l = λ n. l ((loop_whole (length at) at ls (on s) x b g ms e j k).0 n.1)
-
   pub made_tried : (t : List ℕ) (r : Bool) → Like (length at) (on t) (live_set ls (before x Stop) (on s)) → InsideChecked (length at) at ls x (on s) → Made at t new hs r → NodeTried at ls x s new hs r
   made_tried t true i n m = ((λ y h. m.0 y h ∙ i y h), m.1, n)
   made_tried t false i n m = λ c. m (apart_like (length at) at (live_set ls (before x Stop) (on s)) (on t) (λ y h. sym (i y h)) c.0)
 
-  pub loop_made : (b : ListT ℕ) (t : List ℕ) (ms : Labels) (mid ks : List ℕ) (r : Bool) → x ≡ LoopN b → Like (length at) (on t) (live_set ls (before x Stop) (on s)) → Like (length at) ms (in_loop (on t) (on s) ls) → ListTried at ms b s mid ks true → Made at t new hs r → NodeTried at ls x s new hs r
-  loop_made b t ms mid ks r e j k l m = made_tried t r j ((loop_whole (length at) at ls (on s) x b (on t) ms e j k).1 l.2) m
+  -- the set before the body is the one at the head: a second turn tells nothing more
+  pub loop_tried : (b : ListT ℕ) (g : Set) (ms : Labels) (r : Bool) → x ≡ LoopN b → Like (length at) g (live_set ls (before x Stop) (on s)) → Like (length at) ms (in_loop g (on s) ls) → ListTried at ms b s new hs r → NodeTried at ls x s new hs r
+  loop_tried b g ms true e j k l = ((λ y h. l.0 y h ∙ ap (λ z. is_live y z (joined b) (on s y)) (k y h ∙ ap (λ z. label z (on s y) ∷ ls y) (j y h ∙ ap (λ z. live_set ls (before z Stop) (on s) y) e)) ∙ turn_same y (ls y) (joined b) (on s y) ∙ ap (λ z. live_set ls (before z Stop) (on s) y) (sym e)), l.1, (loop_whole (length at) at ls (on s) x b g ms e j k).1 l.2)
+  loop_tried b g ms false e j k l = λ n. l ((loop_whole (length at) at ls (on s) x b g ms e j k).0 n.1)
 
 -- ---- nodes
 

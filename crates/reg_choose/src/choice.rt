@@ -20,7 +20,7 @@ use std::alloc::Global;
 fn crossing(alloc: Global, trails: &[Trail]) -> Result<Vec<bool>, Memory>
     ensures { IfOk result (λ v. v.items ≡ map (λ r. r.crosses) trails.now) }
 {
-    let mut found = Vec::new(alloc);
+    let mut found = Vec::with_capacity(alloc, trails.len())?;
     for r in trails {
         found.push(r.crosses)?;
     }
@@ -31,7 +31,7 @@ fn crossing(alloc: Global, trails: &[Trail]) -> Result<Vec<bool>, Memory>
 fn beginning(alloc: Global, out: &[bool]) -> Result<Vec<Option<u32>>, Memory>
     ensures { IfOk result (λ v. v.items ≡ map first_got out.now) }
 {
-    let mut given = Vec::new(alloc);
+    let mut given = Vec::with_capacity(alloc, out.len())?;
     for o in out {
         given.push(if *o { None } else { Some(0) })?;
     }
@@ -43,7 +43,7 @@ fn places(alloc: Global, given: &[Option<u32>]) -> Result<Vec<Where>, Memory>
     requires few { length given.now < 2 ^ 32 }
     ensures { IfOk result (λ v. v.items ≡ numbered 0 given.now) }
 {
-    let mut at = Vec::new(alloc);
+    let mut at = Vec::with_capacity(alloc, given.len())?;
     let mut slots = 0;
     for g in given {
         match g {

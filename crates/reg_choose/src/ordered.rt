@@ -13,7 +13,7 @@ fn intervals(alloc: Global, trails: &[Trail]) -> Result<Vec<Interval>, Memory>
     ensures is { IfOk result (λ v. map span v.items ≡ spans_from 0 trails.now) }
     ensures below { IfOk result (λ v. All (λ s. s.temp < length trails.now) v.items) }
 {
-    let mut found = Vec::new(alloc);
+    let mut found = Vec::with_capacity(alloc, trails.len())?;
     let mut x = 0;
     while x < trails.len() {
         let r = trails[x];

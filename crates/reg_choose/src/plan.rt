@@ -1,5 +1,5 @@
 // Numbers of the places of a choice.
-ghost use Rattle.std.specs.Prelude.{◌≡◌, ℕ, ◌+◌, ◌<◌, ◌≤◌, ◌∷◌, length, IfOk, map};
+ghost use Rattle.std.specs.Prelude.{◌≡◌, ℕ, suc, ◌+◌, ◌<◌, ◌≤◌, ◌∷◌, length, IfOk, map};
 ghost use Rattle.std.specs.List.Sorted.{IsNonDecreasing};
 ghost use Rattle.mid_code.specs.Safe.{IsChosen, AllPlaces};
 ghost use Rattle.reg_choose.specs.inner.Holding.{below, slots_in, number_of, number_at, IsPlan};
@@ -26,6 +26,7 @@ fn slots(alloc: Global, at: &[Where]) -> Result<Vec<u32>, Memory>
 fn sorted_slots(alloc: Global, at: &[Where]) -> Result<Vec<u32>, Memory>
     ensures rises { IfOk result (λ v. IsNonDecreasing v.items) }
     ensures is { IfOk result (λ v. (k : ℕ) → below k v.items ≡ below k (0 ∷ slots_in at.now)) }
+    ensures len { IfOk result (λ v. length v.items ≡ suc (length (slots_in at.now))) }
 {
     let mut found = slots(alloc, at)?;
     found.sort()?;
@@ -67,20 +68,21 @@ fn numbers_of(alloc: Global, sorted: &[u32], at: &[Where]) -> Result<Vec<usize>,
     requires rises { IsNonDecreasing sorted.now }
     ensures { IfOk result (λ v. v.items ≡ map (number_of sorted.now) at.now) }
 {
-    let mut numbers = Vec::new(alloc);
+    let mut numbers = Vec::with_capacity(alloc, at.len() + 1)?;
     for w in at {
         numbers.push(number(sorted, *w))?;
     }
     Ok(numbers)
 }
 
-/// The numbers of the places of all temporaries, and that of the slot 0.
-pub(crate) fn plan(alloc: Global, at: &[Where]) -> Result<Vec<usize>, Memory>
+/// The numbers of the places of all temporaries, and that of the slot 0; and how many slots are named, with the slot 0.
+pub(crate) fn plan(alloc: Global, at: &[Where]) -> Result<(Vec<usize>, usize), Memory>
     requires chosen { AllPlaces IsChosen at.now }
-    ensures { IfOk result (λ v. IsPlan at.now v.items) }
+    ensures plan { IfOk result (λ v. IsPlan at.now v.0.items) }
+    ensures slots { IfOk result (λ v. v.1 ≡ suc (length (slots_in at.now))) }
 {
     let sorted = sorted_slots(alloc, at)?;
     let mut numbers = numbers_of(alloc, sorted.as_slice(), at)?;
     numbers.push(number(sorted.as_slice(), Where::Slot(0)))?;
-    Ok(numbers)
+    Ok((numbers, sorted.len()))
 }

@@ -1,12 +1,12 @@
 // Whether a choice is safe.
-ghost use Rattle.std.specs.Prelude.{◌≡◌, ℕ, ◌+◌, ◌<◌, ◌≤◌, ◌↔◌, length, IfOk, Bool, true, false};
+ghost use Rattle.std.specs.Prelude.{◌≡◌, ℕ, suc, ◌+◌, ◌<◌, ◌≤◌, ◌↔◌, length, IfOk, Bool, true, false};
 ghost use Rattle.mid_code.specs.Functions.{function};
 ghost use Rattle.mid_code.specs.Invariants.{Names, AllOf, IsTemporary};
 ghost use Rattle.mid_code.specs.Live.{is_among};
 ghost use Rattle.mid_code.specs.Safe.{IsSafe, IsChosen, AllPlaces};
 ghost use Rattle.mid_live.specs.Sets.{on, room};
 ghost use Rattle.reg_choose.specs.inner.Checked.{ApartIn};
-ghost use Rattle.reg_choose.specs.inner.Holding.{IsPlan, Stands};
+ghost use Rattle.reg_choose.specs.inner.Holding.{slots_in, IsPlan, Stands};
 
 use crate::checks::{Check, try_nodes};
 use crate::hold::lay_all;
@@ -36,27 +36,35 @@ fn all_chosen(at: &[Where]) -> bool
     true
 }
 
-/// Holders of no set.
+/// Holders of no set: one for each register, and one for each slot that is named.
 #[tactic(auto, using(crate::proofs::Planned::none_stands))]
-fn no_holders(alloc: Global, at: &[Where], s: &Live) -> Result<Vec<usize>, Memory>
+fn no_holders(alloc: Global, at: &[Where], slots: usize, s: &Live) -> Result<Vec<usize>, Memory>
     requires chosen { AllPlaces IsChosen at.now }
+    requires slots { slots ≡ suc (length (slots_in at.now)) }
     requires wide { length at.now ≤ room s.now }
     requires nothing { (y : ℕ) → on s.now y ≡ false }
     ensures { IfOk result (λ v. Stands at.now s.now v.items) }
 {
     let mut held = Vec::new(alloc);
-    held.resize(at.len() + 11, 0)?;
+    held.resize(slots.saturating_add(10), 0)?;
     Ok(held)
 }
 
 /// Whether no two of these share a place.
-fn apart(alloc: Global, at: &[Where], numbers: &[usize], xs: &[u32]) -> Result<bool, Memory>
+fn apart(
+    alloc: Global,
+    at: &[Where],
+    numbers: &[usize],
+    slots: usize,
+    xs: &[u32],
+) -> Result<bool, Memory>
     requires chosen { AllPlaces IsChosen at.now }
     requires plan { IsPlan at.now numbers.now }
+    requires slots { slots ≡ suc (length (slots_in at.now)) }
     ensures { IfOk result (λ b. (b ≡ true) ↔ ApartIn (length at.now) at.now (is_among xs.now)) }
 {
     let mut s = Live::none(alloc, at.len())?;
-    let mut held = no_holders(alloc, at, &s)?;
+    let mut held = no_holders(alloc, at, slots, &s)?;
     let fits = lay_all(at, numbers, &mut s, held.as_mut_slice(), xs);
     Ok(fits)
 }
@@ -72,14 +80,14 @@ pub fn is_safe(alloc: Global, f: &Function<u32>, c: &Choice) -> Result<bool, Mem
     if at.len() != f.temps as usize || !all_chosen(at) {
         return Ok(false);
     }
-    let numbers = plan(alloc, at)?;
-    if !apart(alloc, at, numbers.as_slice(), f.params.as_slice())? {
+    let (numbers, slots) = plan(alloc, at)?;
+    if !apart(alloc, at, numbers.as_slice(), slots, f.params.as_slice())? {
         return Ok(false);
     }
     let mut behind = Live::none(alloc, at.len() + 1)?;
     let heads = heads_in(alloc, f.body.as_slice(), &mut behind, at.len())?;
     let mut next = 0;
-    let mut held = no_holders(alloc, at, &behind)?;
+    let mut held = no_holders(alloc, at, slots, &behind)?;
     let check = Check {
         at,
         numbers: numbers.as_slice(),

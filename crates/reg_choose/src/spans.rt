@@ -239,6 +239,14 @@ fn walk_node(
         Node::Do(o) => walk_op(by.alloc, o, m, sets, trails, at),
         Node::Choose(p, a, b) => {
             let behind = sets.live.kept(by.alloc)?;
+            let Some(_) = b.as_slice().split_first() else {
+                let one = walk_nodes(by, a.as_slice(), &*m, sets, trails, at.place, next)?;
+                sets.live.join(&behind);
+                sets.live.put(*p as usize);
+                let begun = cease_before(by.alloc, trails, &behind, &sets.live, at, one)?;
+                stand_one(trails, *p as usize, begun);
+                return Ok(begun);
+            };
             let between = walk_nodes(by, b.as_slice(), &*m, sets, trails, at.place, next)?;
             let other = sets.live.kept(by.alloc)?;
             sets.live.restore(&behind);

@@ -1,5 +1,5 @@
 -- Words of bits that are mostly 0.
-use Rattle.std.specs.Prelude.{◌≡◌, ◌≢◌, ℕ, ◌*◌, ◌/◌, ◌%◌, ◌<◌, ◌≤◌, List, [], ◌∷◌, Bool, true, false, ◌||◌, ◌&&◌, eqb, get_or, length, slice_set}
+use Rattle.std.specs.Prelude.{◌≡◌, ◌≢◌, ℕ, ◌*◌, ◌/◌, ◌%◌, ◌<◌, ◌≤◌, List, [], ◌∷◌, Option, Some, None, Bool, true, false, ◌||◌, ◌&&◌, eqb, get_or, length, slice_set}
 use Rattle.std.specs.Int.{bit_at}
 use Rattle.mid_live.specs.declared.words.Held.{Held}
 use Rattle.mid_live.specs.Sets.{on}
@@ -12,6 +12,11 @@ pub record IsHeld (ws hs : List ℕ) : Type 0 where
   pub few : length ws ≤ 0x4000000
   pub wide : length ws ≤ 64 * length hs
   pub held : (i : ℕ) → get_or ws i 0 ≢ 0 → on hs i ≡ true
+
+-- the first word, where there is one, and the others
+abbrev pub held_in : Option Held → List Held → List Held
+held_in None es = es
+held_in (Some e) es = e ∷ es
 
 -- some of the words has the bit of a temporary
 abbrev pub some : List Held → ℕ → Bool

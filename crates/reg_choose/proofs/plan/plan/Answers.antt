@@ -4,8 +4,8 @@ use Rattle.reg_choose.specs.inner.Holding.{number_of}
 use Rattle.reg_choose.proofs.Planned.{is_plan}
 use Rattle.reg_choose.proofs.plan.plan.Goals as goal
 
-pub returns : goal.returns
-returns c =
+pub returns-clause-plan : goal.returns-clause-plan
+returns-clause-plan c =
     let ms : List ℕ = c.in_ok-sorted.sorted.items in
     let f = number_of ms in
     let last : c.push.new.self.items ≡ c.in_ok-numbers.numbers.items ++ c.number.result ∷ [] = search rules in

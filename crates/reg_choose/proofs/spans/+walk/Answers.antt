@@ -1,8 +1,8 @@
-use Rattle.std.proofs.Common.{rules, arith, ◌≡◌, ◌<◌, ◌-◌, ◌+◌, ◌||◌, suc, Bool, false, List, ◌∷◌, map, eqb, length, drop, sym, ap, subst, ◌∙◌}
+use Rattle.std.proofs.Common.{rules, arith, ◌≡◌, ◌<◌, ◌-◌, ◌+◌, ◌||◌, suc, Bool, false, List, ◌∷◌, map, eqb, length, drop, refl, sym, ap, subst, ◌∙◌}
 use Rattle.mid_code.specs.Code.{Stop}
 use Rattle.mid_code.specs.Live.{Label, label, is_live}
 use Rattle.mid_code.specs.Spans.{places}
-use Rattle.mid_code.specs.Functions.{node, nodes, listed, before, joined, ChooseN, BlockN, LoopN}
+use Rattle.mid_code.specs.Functions.{node, nodes, listed, before, joined, NoN, ChooseN, BlockN, LoopN}
 use Rattle.mid_code.specs.declared.node.Node.{the_lemmas}
 use Rattle.mid_live.specs.Sets.{on, room}
 use Rattle.mid_live.specs.Heads.{list_loops, ListTold}
@@ -11,7 +11,7 @@ use Rattle.reg_choose.specs.inner.Trails.{stood}
 use Rattle.reg_choose.specs.inner.Sparse.{ceases, sparse}
 use Rattle.reg_choose.specs.inner.Seen.{seen}
 use Rattle.mid_live.proofs.Facts.{nodes_drop, live_node}
-use Rattle.reg_choose.proofs.Trailed.{choose_live, places_node}
+use Rattle.reg_choose.proofs.Trailed.{no_nodes, choose_live, places_node}
 use Rattle.reg_choose.proofs.Walked.{seen_stood, seen_step, choose_seen, block_seen, loop_seen}
 use Rattle.mid_live.proofs.Learned.{loops_turn}
 use Rattle.reg_choose.proofs.spans.+walk.Goals as goal
@@ -20,40 +20,75 @@ pub walk_node-returns-in_ok-first-in-Choose-clause-trails : goal.walk_node-retur
 walk_node-returns-in_ok-first-in-Choose-clause-trails t c = λ y h.
     let ls : List Label = labels_of y c.args.m.now in
     let j : Bool = on c.args.sets.now.live y in
-    let a = listed (map node c.as_slice-in-Choose.result.now) in
-    let b = listed (map node c.as_slice.result.now) in
+    let a = listed (map node c.as_slice-in-Choose-2.result.now) in
+    let b = listed (map node c.as_slice-in-Choose.result.now) in
     let p = c.in-Choose.p in
     let e : node c.args.x.now ≡ ChooseN p a b = search (rules, the_lemmas) in
     let l0 = c.requires.sizes in
     let g : y < room c.args.sets.now.live = omega (arith, h, l0) in
-    let other : c.in_ok-other-in-Choose.other ≡ c.walk_nodes.new.sets.live = search rules in
+    let other : c.in_ok-other-in-Choose.other ≡ c.walk_nodes-in-Choose.new.sets.live = search rules in
     let again : c.restore.new.self ≡ c.args.sets.now.live = search rules in
     let k : y < room c.restore.new.self = (let q = ap length again in omega (arith, g, q)) in
-    let sa : on c.walk_nodes-in-Choose.new.sets.live y ≡ is_live y ls (joined a) j = c.in_ok-inside-in-Choose.ensures.live y k ∙ ap (λ z. is_live y ls (joined a) (on z y)) again in
+    let sa : on c.walk_nodes-in-Choose-2.new.sets.live y ≡ is_live y ls (joined a) j = c.in_ok-inside-in-Choose.ensures.live y k ∙ ap (λ z. is_live y ls (joined a) (on z y)) again in
     let so : on c.in_ok-other-in-Choose.other y ≡ is_live y ls (joined b) j = ap (λ z. on z y) other ∙ c.in_ok-between-in-Choose.ensures.live y g in
     let l1 = c.in_ok-inside-in-Choose.ensures.len in
-    let w : on c.join.new.self y ≡ (on c.walk_nodes-in-Choose.new.sets.live y || on c.in_ok-other-in-Choose.other y) = c.join.ensures.is y (omega (arith, k, l1)) in
-    let l2 = c.join.ensures.len in
-    let v : on c.put.new.self y ≡ (eqb p y || on c.join.new.self y) = c.put.ensures.is y (omega (arith, k, l1, l2)) in
-    let live = choose_live y ls (node c.args.x.now) p a b j (on c.walk_nodes-in-Choose.new.sets.live y) (on c.in_ok-other-in-Choose.other y) (on c.join.new.self y) (on c.put.new.self y) e sa so w v in
+    let w : on c.join-in-Choose.new.self y ≡ (on c.walk_nodes-in-Choose-2.new.sets.live y || on c.in_ok-other-in-Choose.other y) = c.join-in-Choose.ensures.is y (omega (arith, k, l1)) in
+    let l2 = c.join-in-Choose.ensures.len in
+    let v : on c.put-in-Choose.new.self y ≡ (eqb p y || on c.join-in-Choose.new.self y) = c.put-in-Choose.ensures.is y (omega (arith, k, l1, l2)) in
+    let live = choose_live y ls (node c.args.x.now) p a b j (on c.walk_nodes-in-Choose-2.new.sets.live y) (on c.in_ok-other-in-Choose.other y) (on c.join-in-Choose.new.self y) (on c.put-in-Choose.new.self y) e sa so w v in
     let n = c.in_ok-first-in-Choose.first in
     let inside = c.in_ok-inside-in-Choose.inside in
     let between = c.in_ok-between-in-Choose.between in
     let more = c.args.at.more in
     let r = seen c.args.trails.now c.args.sets.now.crossed y in
-    let cs = c.walk_nodes-in-Choose.new.sets.crossed in
-    let s1 = seen c.walk_nodes.new.trails c.walk_nodes.new.sets.crossed y in
-    let t1 = seen c.walk_nodes-in-Choose.new.trails cs y in
-    let u1 = seen c.cease_before.new.trails cs y in
+    let cs = c.walk_nodes-in-Choose-2.new.sets.crossed in
+    let s1 = seen c.walk_nodes-in-Choose.new.trails c.walk_nodes-in-Choose.new.sets.crossed y in
+    let t1 = seen c.walk_nodes-in-Choose-2.new.trails cs y in
+    let u1 = seen c.cease_before-in-Choose.new.trails cs y in
     let m1 = c.in_ok-between-in-Choose.ensures.trails_len in
     let m2 = c.in_ok-inside-in-Choose.ensures.trails_len in
     let m3 = c.in_ok-first-in-Choose.ensures.len in
     let behind : c.in_ok-behind-in-Choose.behind ≡ c.args.sets.now.live = search rules in
     let one : s1 ≡ sparse y ls (joined b) j false between r = c.in_ok-between-in-Choose.ensures.trails y h in
     let two : t1 ≡ sparse y ls (joined a) j false inside s1 = c.in_ok-inside-in-Choose.ensures.trails y (omega (arith, h, m1)) ∙ ap (λ z. sparse y ls (joined a) (on z y) false inside s1) again in
-    let three : u1 ≡ stood (ceases (on c.put.new.self y) j more) c.args.at.place t1 = seen_stood c.walk_nodes-in-Choose.new.trails c.cease_before.new.trails cs y (ceases (on c.put.new.self y) (on c.in_ok-behind-in-Choose.behind y) more) c.args.at.place (c.in_ok-first-in-Choose.ensures.is y (omega (arith, h, m1, m2))) ∙ ap (λ z. stood (ceases (on c.put.new.self y) (on z y) more) c.args.at.place t1) behind in
-    let four : seen c.stand_one.new.trails cs y ≡ stood (eqb p y || false) n u1 = seen_stood c.cease_before.new.trails c.stand_one.new.trails cs y (eqb p y || false) n (c.stand_one.ensures.is y (omega (arith, h, m1, m2, m3))) in
-    choose_seen (node c.args.x.now) y ls p a b j (on c.put.new.self y) more n inside between c.args.at.place r s1 t1 u1 (seen c.stand_one.new.trails cs y) e live c.in_ok-first-in-Choose.ensures.place c.in_ok-inside-in-Choose.ensures.place c.in_ok-between-in-Choose.ensures.place one two three four
+    let three : u1 ≡ stood (ceases (on c.put-in-Choose.new.self y) j more) c.args.at.place t1 = seen_stood c.walk_nodes-in-Choose-2.new.trails c.cease_before-in-Choose.new.trails cs y (ceases (on c.put-in-Choose.new.self y) (on c.in_ok-behind-in-Choose.behind y) more) c.args.at.place (c.in_ok-first-in-Choose.ensures.is y (omega (arith, h, m1, m2))) ∙ ap (λ z. stood (ceases (on c.put-in-Choose.new.self y) (on z y) more) c.args.at.place t1) behind in
+    let four : seen c.stand_one-in-Choose.new.trails cs y ≡ stood (eqb p y || false) n u1 = seen_stood c.cease_before-in-Choose.new.trails c.stand_one-in-Choose.new.trails cs y (eqb p y || false) n (c.stand_one-in-Choose.ensures.is y (omega (arith, h, m1, m2, m3))) in
+    choose_seen (node c.args.x.now) y ls p a b j (on c.put-in-Choose.new.self y) more n inside between c.args.at.place r s1 t1 u1 (seen c.stand_one-in-Choose.new.trails cs y) e live c.in_ok-first-in-Choose.ensures.place c.in_ok-inside-in-Choose.ensures.place c.in_ok-between-in-Choose.ensures.place one two three four
+
+pub walk_node-returns-in_default-clause-trails : goal.walk_node-returns-in_default-clause-trails
+walk_node-returns-in_default-clause-trails t c = λ y h.
+    let ls : List Label = labels_of y c.args.m.now in
+    let j : Bool = on c.args.sets.now.live y in
+    let a = listed (map node c.as_slice-in_default.result.now) in
+    let b = listed (map node c.as_slice.result.now) in
+    let p = c.in-Choose.p in
+    let whole : node c.args.x.now ≡ ChooseN p a b = search (rules, the_lemmas) in
+    let none : length c.as_slice.result.now ≡ 0 = search rules in
+    let e : node c.args.x.now ≡ ChooseN p a NoN = whole ∙ ap (ChooseN p a) (no_nodes c.as_slice.result.now none) in
+    let l0 = c.requires.sizes in
+    let g : y < room c.args.sets.now.live = omega (arith, h, l0) in
+    let behind : c.in_ok-behind-in-Choose.behind ≡ c.args.sets.now.live = search rules in
+    let l1 = c.in_ok-one-in-Choose.ensures.len in
+    let l2 = c.join.ensures.len in
+    let sa = c.in_ok-one-in-Choose.ensures.live y g in
+    let so : on c.in_ok-behind-in-Choose.behind y ≡ j = ap (λ z. on z y) behind in
+    let w : on c.join.new.self y ≡ (on c.walk_nodes.new.sets.live y || on c.in_ok-behind-in-Choose.behind y) = c.join.ensures.is y (omega (arith, g, l1)) in
+    let v : on c.put.new.self y ≡ (eqb p y || on c.join.new.self y) = c.put.ensures.is y (omega (arith, g, l1, l2)) in
+    let live = choose_live y ls (node c.args.x.now) p a NoN j (on c.walk_nodes.new.sets.live y) (on c.in_ok-behind-in-Choose.behind y) (on c.join.new.self y) (on c.put.new.self y) e sa so w v in
+    let n = c.in_ok-begun-in-Choose.begun in
+    let inside = c.in_ok-one-in-Choose.one in
+    let place = c.args.at.place in
+    let more = c.args.at.more in
+    let r = seen c.args.trails.now c.args.sets.now.crossed y in
+    let cs = c.walk_nodes.new.sets.crossed in
+    let t1 = seen c.walk_nodes.new.trails cs y in
+    let u1 = seen c.cease_before.new.trails cs y in
+    let m1 = c.in_ok-one-in-Choose.ensures.trails_len in
+    let m2 = c.in_ok-begun-in-Choose.ensures.len in
+    let one : t1 ≡ sparse y ls (joined a) j false inside r = c.in_ok-one-in-Choose.ensures.trails y h in
+    let two : u1 ≡ stood (ceases (on c.put.new.self y) j more) place t1 = seen_stood c.walk_nodes.new.trails c.cease_before.new.trails cs y (ceases (on c.put.new.self y) (on c.in_ok-behind-in-Choose.behind y) more) place (c.in_ok-begun-in-Choose.ensures.is y (omega (arith, h, m1))) ∙ ap (λ z. stood (ceases (on c.put.new.self y) (on z y) more) place t1) behind in
+    let three : seen c.stand_one.new.trails cs y ≡ stood (eqb p y || false) n u1 = seen_stood c.cease_before.new.trails c.stand_one.new.trails cs y (eqb p y || false) n (c.stand_one.ensures.is y (omega (arith, h, m1, m2))) in
+    choose_seen (node c.args.x.now) y ls p a NoN j (on c.put.new.self y) more n inside place place r r t1 u1 (seen c.stand_one.new.trails cs y) e live c.in_ok-begun-in-Choose.ensures.place c.in_ok-one-in-Choose.ensures.place (omega arith) refl one two three
 
 pub walk_node-returns-in_ok-first-in-Block-clause-trails : goal.walk_node-returns-in_ok-first-in-Block-clause-trails
 walk_node-returns-in_ok-first-in-Block-clause-trails t c = λ y h.

@@ -1,10 +1,29 @@
 -- What types and lists in memory stand for.
-use Rattle.std.proofs.Common.{◌≡◌, ◌≤◌, ℕ, zero, List, [], ◌∷◌, map, ap, sym, ◌∙◌, arith, suc, ◌+◌, ◌<◌, length, drop, drop-cons, get_or}
-use Rattle.c_types.specs.View.{tstmt, tstmts, tarm, tarms}
-use Rattle.c_types.specs.Typed.{MoreZ, MoreB}
+use Rattle.std.proofs.Common.{rules, Option, Some, None, option_map, ◌≡◌, ◌≤◌, ℕ, zero, List, [], ◌∷◌, map, ap, sym, ◌∙◌, arith, suc, ◌+◌, ◌<◌, length, drop, drop-cons, get_or}
+use Rattle.std.specs.Borrow.{Bor}
+use Rattle.std.specs.Global.{Box}
+use Rattle.std.specs.Option.{option_copied}
+use Rattle.c_types.specs.View.{texpr, tstmt, tstmts, tarm, tarms}
+use Rattle.c_types.specs.Typed.{IfZ, ForZ, MoreZ, MoreB}
 use Rattle.c_types.specs.Nodes.{statements_nodes, arms_nodes}
-use Rattle.c_types.specs.declared.typed.TStmt.{TStmt}
+use Rattle.c_types.specs.declared.typed.TExpr.{TExpr}
+use Rattle.c_types.specs.declared.typed.TStmt.{TStmt, If, For, the_lemmas}
 use Rattle.c_types.specs.declared.typed.TArm.{TArm}
+use Rattle.lower_trees.specs.inner.MaybeStatements.{other_of, maybe_texpr}
+
+-- ---- statements that may lack a part
+
+pub view-If : (x : TExpr) (a : Box TStmt) (b : Option (Box TStmt)) → tstmt (If x a b) ≡ IfZ (texpr x) (tstmt a.value) (other_of b)
+view-If x a None = search (rules, the_lemmas)
+view-If x a (Some b) = search (rules, the_lemmas)
+
+pub view-For : (made : List ℕ) (f : Option (Box TStmt)) (x y : Option TExpr) (a : Box TStmt) → tstmt (For made f x y a) ≡ ForZ made (other_of f) (option_map texpr x) (option_map texpr y) (tstmt a.value)
+view-For made None x y a = search (rules, the_lemmas)
+view-For made (Some f) x y a = search (rules, the_lemmas)
+
+pub maybe_is : (r : Option (Bor TExpr)) (x : Option TExpr) → option_copied r ≡ x → option_map texpr x ≡ maybe_texpr r
+maybe_is None x e = ap (option_map texpr) (sym e)
+maybe_is (Some r) x e = ap (option_map texpr) (sym e)
 
 -- ---- what is left of a list
 

@@ -3,3 +3,4 @@ pub mod MaybeStatements
 pub mod StatementParts
 pub mod Enclosed
 pub mod Adding
+pub mod Operands

@@ -1,6 +1,6 @@
 // Nodes that are added, and loops over cells.
-ghost use Rattle.std.specs.Prelude.{◌≡◌, ◌==◌, false, map, IfOk, OnOk};
-ghost use Rattle.mid_code.specs.Functions.{node};
+ghost use Rattle.std.specs.Prelude.{◌≡◌, ◌==◌, ◌++◌, ◌∷◌, [], false, map, IfOk, OnOk};
+ghost use Rattle.mid_code.specs.Functions.{DoN, ChooseN, listed, node};
 ghost use Rattle.lower_trees.specs.Pieces.{DoP, listing};
 ghost use Rattle.lower_trees.specs.inner.Adding.{AddsCode};
 ghost use Rattle.lower_trees.specs.Parts.{count, one, cell, from, to, copy_turn, zero_turn, copied, zeroed, moved_by, structure_read, stored, made};
@@ -41,6 +41,29 @@ pub(crate) fn put(nodes: &mut Nodes, o: Op<u32>) -> Result<(), Memory>
     ensures { OnOk result (AddsCode nodes.old nodes.new (DoP o)) }
 {
     nodes.push(Node::Do(o))?;
+    Ok(())
+}
+
+/// An operation by itself.
+pub(crate) fn alone(alloc: Global, o: Op<u32>) -> Result<Nodes, Memory>
+    ensures { IfOk result (λ r. map node r.items ≡ DoN o ∷ []) }
+{
+    let mut nodes = Vec::new(alloc);
+    put(&mut nodes, o)?;
+    Ok(nodes)
+}
+
+/// Adds a choice by the word in t.
+pub(crate) fn put_choice(
+    nodes: &mut Nodes,
+    t: u32,
+    first: Nodes,
+    second: Nodes,
+) -> Result<(), Memory>
+    ensures { OnOk result (map node nodes.new.items ≡ map node nodes.old.items
+        ++ ChooseN t (listed (map node first.items)) (listed (map node second.items)) ∷ []) }
+{
+    nodes.push(Node::Choose(t, Seq::from_vec(first), Seq::from_vec(second)))?;
     Ok(())
 }
 

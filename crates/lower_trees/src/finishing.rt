@@ -1,6 +1,6 @@
-// What comes behind the operands of an expression.
+// What comes behind the operands of an expression, and expressions without operands.
 ghost use Rattle.std.specs.Prelude.{◌≡◌, ◌≤◌, ◌+◌, ◌++◌, ◌∷◌, [], map, false, if◌then◌else◌, IfOk, OnOk};
-ghost use Rattle.c_types.specs.View.{ctype, or_void};
+ghost use Rattle.c_types.specs.View.{ctype, texpr, or_void};
 ghost use Rattle.c_types.specs.Kinds.{is_void};
 ghost use Rattle.mid_code.specs.Functions.{node};
 ghost use Rattle.lower_trees.specs.Shape.{words};
@@ -11,18 +11,20 @@ ghost use Rattle.lower_trees.specs.Expressions.{later_types, step_by, stepped_to
 ghost use Rattle.lower_trees.specs.inner.Adding.{Adds, AddsCode, HasRoom};
 ghost use Rattle.lower_trees.specs.inner.Enclosed.{lazy_choice};
 ghost use Rattle.lower_trees.specs.inner.MaybeTypes.{or_none};
-ghost use Rattle.lower_trees.specs.View.{shape_of};
+ghost use Rattle.lower_trees.specs.inner.Operands.{leaf, done, left, combined, assigned_at, assigned};
+ghost use Rattle.lower_trees.specs.View.{shape_of, tkind};
 
-use crate::cells::{move_by, put, read_structure, store};
-use crate::kinds::is_scalar;
-use crate::operands::Operands;
-use crate::operating::{convert, operate, put_flag, step_by, step_one};
+use crate::cells::{alone, move_by, put, put_choice, read_structure, store};
+use crate::kinds::{is_flag, is_place, is_scalar};
+use crate::operands::{After, First, Operands, Second};
+use crate::operating::{convert, negate_as, operate, put_flag, step_by, step_one, test_as};
 use crate::output::{Nodes, Output};
 use crate::reading::Reading;
+use c_exprs::keeping;
 use c_tree::BinOp;
-use c_types::{CType, is_structure, is_void};
+use c_types::{CType, TExpr, TKind, is_structure, is_void};
 use kit_base::{Memory, Seq};
-use mid_code::{Node, Op};
+use mid_code::Op;
 use std::alloc::Global;
 
 /// The structure at the place in t, whose type this is, is copied to a local of its own.
@@ -42,8 +44,35 @@ pub(crate) fn take_structure(
     read_structure(s.alloc, &mut out.nodes, size, local, t)
 }
 
+/// Computes an expression that has no operands into temporary `t`.
+pub(crate) fn leaf(nodes: &mut Nodes, of: &TKind, t: u32) -> Result<(), Memory>
+    ensures { OnOk result (AddsCode nodes.old nodes.new (leaf (tkind of.now) t)) }
+{
+    match of {
+        TKind::Number(n) => put(nodes, Op::Const(t, *n)),
+        TKind::Null => put(nodes, Op::Null(t)),
+        TKind::Literal(number) => put(nodes, Op::Literal(t, *number)),
+        TKind::Global(number) => put(nodes, Op::Global(t, *number)),
+        TKind::Local(number) => put(nodes, Op::Local(t, *number)),
+        TKind::In(port) => put(nodes, Op::In(t, *port)),
+        TKind::Wait => put(nodes, Op::Wait),
+        TKind::Halt => put(nodes, Op::Halt),
+        TKind::Card => put(nodes, Op::Card(t)),
+        TKind::Unary(_, _)
+        | TKind::Binary(_, _, _)
+        | TKind::Assign(_, _, _)
+        | TKind::Step(_, _)
+        | TKind::Index(_, _)
+        | TKind::Member(_, _)
+        | TKind::Arrow(_, _)
+        | TKind::Cast(_)
+        | TKind::Call(_, _)
+        | TKind::Out(_, _) => Ok(()),
+    }
+}
+
 /// Puts the pointer in `a`, moved on by the number of elements of a type in `b`, into `t`. The size of an element comes to the next temporary.
-pub(crate) fn step_on(
+fn step_on(
     s: &Reading<'_>,
     ty: &CType,
     t: u32,
@@ -68,19 +97,24 @@ pub(crate) fn step_on(
     Ok(())
 }
 
+/// What `&&` (true) or `||` (false) comes to where the second operand is skipped.
+fn skipped_word(and: bool) -> u32
+    ensures { result ≡ (if and then 0 else 1) }
+{
+    if and { 0 } else { 1 }
+}
+
 /// Chooses by the first operand of `&&` or `||` whether the second one is run.
 fn put_lazy(alloc: Global, nodes: &mut Nodes, and: bool, t: u32, last: Nodes) -> Result<(), Memory>
     ensures { OnOk result (map node nodes.new.items ≡ map node nodes.old.items ++ lazy_choice and t (map node last.items)) }
 {
-    let mut known = Vec::new(alloc);
+    let known = alone(alloc, Op::Const(t, skipped_word(and)));
+    let (last, known) = keeping(last, known)?;
     if and {
-        put(&mut known, Op::Const(t, 0))?;
-        nodes.push(Node::Choose(t, Seq::from_vec(last), Seq::from_vec(known)))?;
+        put_choice(nodes, t, last, known)
     } else {
-        put(&mut known, Op::Const(t, 1))?;
-        nodes.push(Node::Choose(t, Seq::from_vec(known), Seq::from_vec(last)))?;
+        put_choice(nodes, t, known, last)
     }
-    Ok(())
 }
 
 /// Chooses by the first operand of `&&` or `||` whether the second one is run, whose word is made 0 or 1 where it is not known to be.
@@ -100,7 +134,7 @@ pub(crate) fn choose_lazy(
 }
 
 /// The value in t is stored at the place in p, whose type this is.
-pub(crate) fn assign(
+fn assign(
     s: &Reading<'_>,
     nodes: &mut Nodes,
     ty: &CType,
@@ -115,7 +149,7 @@ pub(crate) fn assign(
 }
 
 /// The cell at the place in p is loaded, operated on and stored there again.
-pub(crate) fn compound(
+fn compound(
     s: &Reading<'_>,
     nodes: &mut Nodes,
     op: BinOp,
@@ -187,7 +221,7 @@ fn load_member(nodes: &mut Nodes, place: bool, ty: &CType, t: u32) -> Result<(),
 }
 
 /// Puts the member `offset` words behind the structure in `p` into `t`; a scalar of a structure that is no place is read.
-pub(crate) fn member(
+fn member(
     nodes: &mut Nodes,
     place: bool,
     ty: &CType,
@@ -199,6 +233,92 @@ pub(crate) fn member(
 {
     move_by(nodes, t, p, offset)?;
     load_member(nodes, place, ty, t)
+}
+
+/// What is done to an operand that came to `r`; it comes to `t`.
+pub(crate) fn finish(
+    nodes: &mut Nodes,
+    after: After<'_>,
+    x: &TExpr,
+    r: u32,
+    t: u32,
+) -> Result<(), Memory>
+    ensures { OnOk result (AddsCode nodes.old nodes.new (done after.entry (texpr x.now) r t)) }
+{
+    match after {
+        After::One(op) => put(nodes, Op::One(op, t, t)),
+        After::Out(port) => put(nodes, Op::Out(port, t)),
+        After::Test => test_as(nodes, &x.ty, t),
+        After::Negate => negate_as(nodes, &x.ty, t),
+        After::Convert(ty) => convert(nodes, ty, is_flag(x), t),
+        After::Offset(offset) => move_by(nodes, t, r, offset),
+        After::Member(ty, offset) => member(nodes, is_place(x), ty, t, r, offset),
+    }
+}
+
+/// What is done to both operands, of which the second came to `r`.
+pub(crate) fn combine(
+    s: &Reading<'_>,
+    of: Second<'_>,
+    first: First<'_>,
+    y: &TExpr,
+    t: u32,
+    r: u32,
+    out: &mut Output,
+) -> Result<(), Memory>
+    requires next { out.old.next + left of ≤ 1000000 }
+    ensures adds { OnOk result (Adds out.old out.new (λ n m. combined (shape_of s.now) of.entry first.entry (texpr y.now) t r n) (left of.entry) []) }
+{
+    match of {
+        Second::Operate(op) => {
+            let scale = out.take(1);
+            let k = Operands {
+                target: t,
+                first: first.temporary,
+                second: r,
+                scale,
+            };
+            operate(s, &mut out.nodes, op, first.ty, &y.ty, k)
+        }
+        Second::Element(ty) => step_on(s, ty, t, first.temporary, r, out),
+    }
+}
+
+/// Where the value comes to that is assigned: a compound assignment reads the old cell to `t`.
+pub(crate) fn assigned_at(op: Option<BinOp>, t: u32, r: u32) -> u32
+    ensures { result ≡ assigned_at op t r }
+{
+    match op {
+        None => t,
+        Some(_) => r,
+    }
+}
+
+/// The value is stored at the place; a compound assignment operates on the cell first.
+pub(crate) fn assign_by(
+    s: &Reading<'_>,
+    nodes: &mut Nodes,
+    op: Option<BinOp>,
+    place: First<'_>,
+    y: &TExpr,
+    t: u32,
+    r: u32,
+) -> Result<(), Memory>
+    requires next { r + 1 ≤ 1000000 }
+    ensures nodes { OnOk result (AddsCode nodes.old nodes.new (assigned (shape_of s.now) op place.entry (texpr y.now) t r)) }
+{
+    match op {
+        None => assign(s, nodes, place.ty, is_flag(y), place.temporary, t),
+        Some(op) => {
+            let k = Operands {
+                target: t,
+                first: t,
+                second: r,
+                scale: r + 1,
+            };
+            compound(s, nodes, op, place.ty, &y.ty, k, place.temporary)
+        }
+    }
 }
 
 /// The function that is called, and the temporary that its result comes to.

@@ -1,5 +1,5 @@
 // Parts of loops, switches and returns.
-ghost use Rattle.std.specs.Prelude.{◌≡◌, ◌≤◌, ◌+◌, ◌++◌, ◌∷◌, [], length, map, None, if◌then◌else◌, IfOk, OnOk};
+ghost use Rattle.std.specs.Prelude.{◌≡◌, ◌≤◌, ◌+◌, ◌++◌, ◌∷◌, [], length, map, if◌then◌else◌, IfOk, OnOk};
 ghost use Rattle.c_types.specs.View.{ctype, texpr, tarm, tarms};
 ghost use Rattle.mid_code.specs.Functions.{DoN, BlockN, LoopN, ChooseN, LeaveN, AgainN, listed, node};
 ghost use Rattle.lower_trees.specs.Counts.{maybe_temps, maybe_sizes, value_temps, value_sizes};
@@ -13,7 +13,7 @@ ghost use Rattle.lower_trees.specs.inner.MaybeStatements.{maybe_texpr};
 ghost use Rattle.lower_trees.specs.Flags.{is_flag};
 ghost use Rattle.lower_trees.specs.View.{shape_of, jump_of};
 
-use crate::cells::{FROM, ONE, OTHER, RESULT_AT, TO, copy_cells, put};
+use crate::cells::{FROM, ONE, OTHER, RESULT_AT, TO, alone, copy_cells, put, put_choice};
 use crate::expressions::{test, value};
 use crate::jump::JumpTo;
 use crate::kinds::is_flag;
@@ -50,11 +50,11 @@ pub(crate) fn jump(nodes: &mut Nodes, j: JumpTo) -> Result<(), Memory>
     Ok(())
 }
 
-/// Returns nothing.
-pub(crate) fn return_nothing(nodes: &mut Nodes) -> Result<(), Memory>
-    ensures { OnOk result (AddsCode nodes.old nodes.new (ReturnP None)) }
+/// Returns the word in a temporary, or nothing.
+pub(crate) fn put_return(nodes: &mut Nodes, p: Option<u32>) -> Result<(), Memory>
+    ensures { OnOk result (AddsCode nodes.old nodes.new (ReturnP p)) }
 {
-    nodes.push(Node::Return(None))?;
+    nodes.push(Node::Return(p))?;
     Ok(())
 }
 
@@ -63,20 +63,6 @@ pub(crate) fn put_block(nodes: &mut Nodes, inside: Nodes) -> Result<(), Memory>
     ensures { OnOk result (map node nodes.new.items ≡ map node nodes.old.items ++ BlockN (listed (map node inside.items)) ∷ []) }
 {
     nodes.push(Node::Block(Seq::from_vec(inside)))?;
-    Ok(())
-}
-
-/// Adds a choice by the word in t.
-pub(crate) fn put_choice(
-    nodes: &mut Nodes,
-    t: u32,
-    first: Nodes,
-    second: Nodes,
-) -> Result<(), Memory>
-    ensures { OnOk result (map node nodes.new.items ≡ map node nodes.old.items
-        ++ ChooseN t (listed (map node first.items)) (listed (map node second.items)) ∷ []) }
-{
-    nodes.push(Node::Choose(t, Seq::from_vec(first), Seq::from_vec(second)))?;
     Ok(())
 }
 
@@ -333,9 +319,9 @@ pub(crate) fn close_label(
     ensures { OnOk result (map node nodes.new.items ≡ map node nodes.old.items ++ (if met then low_label t (map node inside.items) else [])) }
 {
     if met {
-        let mut passed = Vec::new(alloc);
-        put(&mut passed, Op::Two(Two::ISUB, t, t, ONE))?;
-        put_choice(nodes, t, passed, inside)?;
+        let passed = alone(alloc, Op::Two(Two::ISUB, t, t, ONE));
+        let (inside, passed) = keeping(inside, passed)?;
+        return put_choice(nodes, t, passed, inside);
     }
     Ok(())
 }
@@ -348,11 +334,10 @@ fn give_back(s: &Reading<'_>, nodes: &mut Nodes, ty: &CType, t: u32) -> Result<(
         put(nodes, Op::Move(FROM, t))?;
         put(nodes, Op::Move(TO, RESULT_AT))?;
         copy_cells(s.alloc, nodes, s.words(ty))?;
-        nodes.push(Node::Return(None))?;
+        put_return(nodes, None)
     } else {
-        nodes.push(Node::Return(Some(t)))?;
+        put_return(nodes, Some(t))
     }
-    Ok(())
 }
 
 /// Returns the value of an expression.

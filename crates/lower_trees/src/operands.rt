@@ -1,5 +1,7 @@
 // What an expression is made of.
+use c_tree::BinOp;
 use c_types::CType;
+use v32_isa::One;
 
 /// What an operator comes to, its operands, of which the second is used up, and the size of an element, where it needs one.
 #[derive(Clone, Copy)]
@@ -15,4 +17,24 @@ pub(crate) struct Operands {
 pub(crate) struct First<'x> {
     pub(crate) ty: &'x CType,
     pub(crate) temporary: u32,
+}
+
+/// What is done to an only operand, once it is computed: an operation on its word, a write to a port, a test, a test that is turned around, a
+/// conversion to a type, a step by so many words, or a step to a member of this type.
+#[derive(Clone, Copy)]
+pub(crate) enum After<'x> {
+    One(One),
+    Out(u32),
+    Test,
+    Negate,
+    Convert(&'x CType),
+    Offset(u32),
+    Member(&'x CType, u32),
+}
+
+/// What is done to two operands, once they are computed: an operator, or a step to an element of a type.
+#[derive(Clone, Copy)]
+pub(crate) enum Second<'x> {
+    Operate(BinOp),
+    Element(&'x CType),
 }

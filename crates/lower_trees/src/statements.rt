@@ -14,16 +14,16 @@ ghost use Rattle.lower_trees.specs.Expressions.{low_value};
 ghost use Rattle.lower_trees.specs.Statements.{labels_before_default, low_match, low_stmt, low_other, low_stmts, low_arms, ToEnd};
 ghost use Rattle.lower_trees.specs.inner.Adding.{Adds, AddsInside, HasRoom};
 ghost use Rattle.lower_trees.specs.inner.MaybeStatements.{other_of};
-ghost use Rattle.lower_trees.specs.inner.StatementParts.{choice_of, for_of, switch_of, AddsStatement, AddsNested, CanLower, CanLowerOne};
+ghost use Rattle.lower_trees.specs.inner.StatementParts.{simple_of, choice_of, for_of, switch_of, AddsStatement, AddsNested, CanLower, CanLowerOne};
 ghost use Rattle.lower_trees.specs.View.{shape_of, jump_of};
 
-use crate::cells::make;
+use crate::cells::{make, put_choice};
 use crate::expressions::value;
 use crate::initialisers::variables;
 use crate::jump::{Exits, JumpTo};
 use crate::looping::{
     Turn, begin_turn, close_do_while, close_label, close_turn, close_while, condition, further,
-    jump, put_block, put_choice, put_tests, return_nothing, return_value,
+    jump, put_block, put_return, put_tests, return_value,
 };
 use crate::output::{Nodes, Output};
 use crate::reading::Reading;
@@ -35,11 +35,11 @@ use std::mem;
 
 /// The branches of an `if`.
 #[derive(Clone, Copy)]
-struct Branches<'x>(&'x TStmt, Option<&'x TStmt>);
+struct Branches<'x>(&'x TStmt, &'x Option<Box<TStmt>>);
 
 /// What stands between the parentheses of a `for`, in its order: what is done first, the condition, and the step.
 #[derive(Clone, Copy)]
-struct ForHead<'x>(Option<&'x TStmt>, Option<&'x TExpr>, Option<&'x TExpr>);
+struct ForHead<'x>(&'x Option<Box<TStmt>>, Option<&'x TExpr>, Option<&'x TExpr>);
 
 /// The parts of a `for`, which makes the locals `made` anew.
 #[derive(Clone, Copy)]
@@ -55,6 +55,36 @@ struct SwitchParts<'x> {
     value: &'x TExpr,
     made: &'x [u32],
     arms: &'x [TArm],
+}
+
+/// A statement that holds no other.
+fn simple<'x>(
+    s: &Reading<'x>,
+    exits: Exits<'_>,
+    a: &'x TStmt,
+    out: &mut Output,
+) -> Result<(), Memory>
+    requires room { CanLowerOne s.now exits.continues (simple_of (tstmt a.now)) out.old }
+    ensures adds { OnOk result (AddsStatement s.now exits.entry (simple_of (tstmt a.now)) out.old out.new) }
+{
+    match a {
+        TStmt::Vars(vs) => variables(s, vs.as_slice(), out),
+        TStmt::Do(x) => {
+            let t = out.take(1);
+            value(s, x, t, out)
+        }
+        TStmt::Return(None) => put_return(&mut out.nodes, None),
+        TStmt::Return(Some(x)) => return_value(s, exits.gives, x, out),
+        TStmt::Break => jump(&mut out.nodes, JumpTo::End(exits.breaks)),
+        TStmt::Continue => jump(&mut out.nodes, exits.continues),
+        TStmt::Empty
+        | TStmt::Block(_, _)
+        | TStmt::If(_, _, _)
+        | TStmt::While(_, _)
+        | TStmt::DoWhile(_, _)
+        | TStmt::For(_, _, _, _, _)
+        | TStmt::Switch(_, _, _) => Ok(()),
+    }
 }
 
 /// A statement.
@@ -73,25 +103,18 @@ fn statement<'x>(
             let made = made.as_slice();
             block(s, exits, made, body.as_slice(), out)
         }
-        TStmt::Empty => Ok(()),
-        TStmt::Vars(vs) => variables(s, vs.as_slice(), out),
-        TStmt::Do(x) => {
-            let t = out.take(1);
-            value(s, x, t, out)
-        }
-        TStmt::If(x, body, None) => choice(s, exits, x, Branches(body, None), out),
-        TStmt::If(x, body, Some(rest)) => choice(s, exits, x, Branches(body, Some(rest)), out),
+        TStmt::Empty
+        | TStmt::Vars(_)
+        | TStmt::Do(_)
+        | TStmt::Return(_)
+        | TStmt::Break
+        | TStmt::Continue => simple(s, exits, a, out),
+        TStmt::If(x, body, rest) => choice(s, exits, x, Branches(body, rest), out),
         TStmt::While(x, body) => while_loop(s, exits.gives, x, body, out),
         TStmt::DoWhile(body, x) => do_while_loop(s, exits.gives, body, x, out),
-        TStmt::For(made, None, test, step, body) => {
+        TStmt::For(made, first, test, step, body) => {
             let made = made.as_slice();
-            let head = ForHead(None, test.as_ref(), step.as_ref());
-            let of = ForParts { made, head, body };
-            for_loop(s, exits, of, out)
-        }
-        TStmt::For(made, Some(first), test, step, body) => {
-            let made = made.as_slice();
-            let head = ForHead(Some(first), test.as_ref(), step.as_ref());
+            let head = ForHead(first, test.as_ref(), step.as_ref());
             let of = ForParts { made, head, body };
             for_loop(s, exits, of, out)
         }
@@ -101,10 +124,6 @@ fn statement<'x>(
             let of = SwitchParts { value, made, arms };
             switch(s, exits, of, out)
         }
-        TStmt::Return(None) => return_nothing(&mut out.nodes),
-        TStmt::Return(Some(x)) => return_value(s, exits.gives, x, out),
-        TStmt::Break => jump(&mut out.nodes, JumpTo::End(exits.breaks)),
-        TStmt::Continue => jump(&mut out.nodes, exits.continues),
     }
 }
 
@@ -132,14 +151,14 @@ fn nested<'x>(
 fn nested_other<'x>(
     s: &Reading<'x>,
     exits: Exits<'_>,
-    a: Option<&'x TStmt>,
+    a: &'x Option<Box<TStmt>>,
     out: &mut Output,
 ) -> Result<Nodes, Memory>
-    requires room { CanLower exits.continues (other_temps (other_of a))
-        (other_sizes (shape_of s.now) (other_of a)) (maybe_statement_nodes (other_of a)) out.old }
+    requires room { CanLower exits.continues (other_temps (other_of a.now))
+        (other_sizes (shape_of s.now) (other_of a.now)) (maybe_statement_nodes (other_of a.now)) out.old }
     ensures adds { IfOk result (λ r. AddsInside out.old out.new r (λ n m. listing
-        (low_other (shape_of s.now) (ctype exits.entry.gives.now) (other_of a.entry) n m exits.entry.breaks (jump_of exits.entry.continues)))
-        (other_temps (other_of a.entry)) (other_sizes (shape_of s.now) (other_of a.entry))) }
+        (low_other (shape_of s.now) (ctype exits.entry.gives.now) (other_of a.now) n m exits.entry.breaks (jump_of exits.entry.continues)))
+        (other_temps (other_of a.now)) (other_sizes (shape_of s.now) (other_of a.now))) }
 {
     match a {
         None => Ok(Vec::new(s.alloc)),
@@ -152,14 +171,14 @@ fn nested_other<'x>(
 fn other<'x>(
     s: &Reading<'x>,
     exits: Exits<'_>,
-    a: Option<&'x TStmt>,
+    a: &'x Option<Box<TStmt>>,
     out: &mut Output,
 ) -> Result<(), Memory>
-    requires room { CanLower exits.continues (other_temps (other_of a))
-        (other_sizes (shape_of s.now) (other_of a)) (maybe_statement_nodes (other_of a)) out.old }
+    requires room { CanLower exits.continues (other_temps (other_of a.now))
+        (other_sizes (shape_of s.now) (other_of a.now)) (maybe_statement_nodes (other_of a.now)) out.old }
     ensures adds { OnOk result (Adds out.old out.new (λ n m.
-        low_other (shape_of s.now) (ctype exits.entry.gives.now) (other_of a.entry) n m exits.entry.breaks (jump_of exits.entry.continues))
-        (other_temps (other_of a.entry)) (other_sizes (shape_of s.now) (other_of a.entry))) }
+        low_other (shape_of s.now) (ctype exits.entry.gives.now) (other_of a.now) n m exits.entry.breaks (jump_of exits.entry.continues))
+        (other_temps (other_of a.now)) (other_sizes (shape_of s.now) (other_of a.now))) }
 {
     match a {
         None => Ok(()),

@@ -2,7 +2,7 @@
 use Rattle.std.specs.Prelude.{ℕ, ◌≤◌, ◌+◌, List, ◌++◌, length, map, Vec}
 use Rattle.std.specs.declared.alloc.Global.{Global}
 use Rattle.mid_code.specs.declared.node.Node.{Node}
-use Rattle.c_types.specs.Typed.{TExprT, TStmtT, IfZ, ForZ, SwitchZ}
+use Rattle.c_types.specs.Typed.{TExprT, TStmtT, EmptyZ, VarsZ, DoZ, IfZ, ForZ, SwitchZ, ReturnZ, BreakZ, ContinueZ}
 use Rattle.c_types.specs.View.{ctype, texpr, tstmt, tarm, tarms}
 use Rattle.c_types.specs.Nodes.{statement_nodes}
 use Rattle.lower_trees.specs.declared.statements.Branches.{Branches}
@@ -19,11 +19,20 @@ use Rattle.lower_trees.specs.View.{shape_of, jump_of}
 use Rattle.lower_trees.specs.inner.Adding.{Adds, AddsInside}
 use Rattle.lower_trees.specs.inner.MaybeStatements.{other_of, maybe_texpr}
 
+-- a statement that holds no other; of all others nothing
+abbrev pub simple_of : TStmtT → TStmtT
+simple_of (VarsZ vars) = VarsZ vars
+simple_of (DoZ x) = DoZ x
+simple_of (ReturnZ x) = ReturnZ x
+simple_of BreakZ = BreakZ
+simple_of ContinueZ = ContinueZ
+simple_of _ = EmptyZ
+
 abbrev pub choice_of : TExprT → Branches → TStmtT
-choice_of x b = IfZ x (tstmt b.0.now) (other_of b.1)
+choice_of x b = IfZ x (tstmt b.0.now) (other_of b.1.now)
 
 abbrev pub for_of : ForParts → TStmtT
-for_of p = ForZ p.made.now (other_of p.head.0) (maybe_texpr p.head.1) (maybe_texpr p.head.2) (tstmt p.body.now)
+for_of p = ForZ p.made.now (other_of p.head.0.now) (maybe_texpr p.head.1) (maybe_texpr p.head.2) (tstmt p.body.now)
 
 abbrev pub switch_of : SwitchParts → TStmtT
 switch_of p = SwitchZ (texpr p.value.now) p.made.now (tarms (map tarm p.arms.now))

@@ -1,7 +1,7 @@
 use Rattle.std.proofs.Common.{rules, arith, ◌≡◌, ◌≤◌, ◌<◌, ◌+◌, ◌*◌, ◌++◌, length, length-append, drop, map, sym, ap, ◌∙◌, refl, subst}
 use Rattle.std.specs.Prelude.{OnOk}
 use Rattle.c_types.specs.View.{texpr, tstmt, tstmts, tarm, tarms}
-use Rattle.c_types.specs.Typed.{BlockZ, IfZ, WhileZ, DoWhileZ, ForZ, SwitchZ, NoneZ, SomeZ, MoreZ, MoreB, StmtB}
+use Rattle.c_types.specs.Typed.{BlockZ, IfZ, WhileZ, DoWhileZ, ForZ, SwitchZ, SomeZ, MoreZ, MoreB, StmtB}
 use Rattle.c_types.specs.Nodes.{typed_nodes, statement_nodes, maybe_statement_nodes, statements_nodes, arms_nodes}
 use Rattle.c_types.specs.declared.typed.TStmt.{the_lemmas}
 use Rattle.c_types.specs.declared.typed.TArm as al
@@ -12,7 +12,7 @@ use Rattle.lower_trees.specs.inner.StatementParts.{CanLower, CanLowerOne, AddsSt
 use Rattle.lower_trees.specs.View.{shape_of, jump_of}
 use Rattle.lower_trees.proofs.StatementForms.{if_length, do_while_length, arms_many}
 use Rattle.lower_trees.proofs.Rooms.{room_for}
-use Rattle.lower_trees.proofs.Viewed.{stmts_left, arms_left, stmts_drop, arms_drop}
+use Rattle.lower_trees.proofs.Viewed.{view-If, view-For, maybe_is, stmts_left, arms_left, stmts_drop, arms_drop}
 use Rattle.lower_trees.proofs.statements.+execute.Goals as goal
 
 pub statement-block-requires : goal.statement-block-requires
@@ -28,41 +28,29 @@ statement-block-requires t c =
 pub statement-choice-requires : goal.statement-choice-requires
 statement-choice-requires t c =
     let s = tstmt c.args.a.now in
-    let z = IfZ (texpr c.in-If-default-default-None.x) (tstmt c.deref.result.now) NoneZ in
-    let e : s ≡ z = search (rules, the_lemmas) in
+    let a = tstmt c.deref.result.now in
+    let rest = other_of c.in-If.rest in
+    let z = IfZ (texpr c.in-If.x) a rest in
+    let e : s ≡ z = ap tstmt c.in-If.is ∙ view-If c.in-If.x c.in-If.body c.in-If.rest ∙ ap (λ b. IfZ (texpr c.in-If.x) (tstmt b) rest) (sym c.deref.ensures) in
     let kn : statement_nodes s ≡ statement_nodes z = ap statement_nodes e in
     let dec : 4 * statement_nodes s ≡ t = c.decreases in
-    let fall : 4 * (statement_nodes (tstmt c.deref.result.now) + 0) + 3 < t = omega (arith, kn, dec) in
-    (fall, subst (λ z. CanLowerOne c.args.s.now c.args.exits.continues z c.args.out.now) e c.requires.room)
-
-pub statement-choice-requires-in-If-default-default-Some : goal.statement-choice-requires-in-If-default-default-Some
-statement-choice-requires-in-If-default-default-Some t c =
-    let s = tstmt c.args.a.now in
-    let z = IfZ (texpr c.in-If-default-default-Some.x) (tstmt c.deref-in-If-default-default-Some.result.now) (SomeZ (tstmt c.deref-in-If-default-default-Some-2.result.now)) in
-    let e : s ≡ z = search (rules, the_lemmas) in
-    let kn : statement_nodes s ≡ statement_nodes z = ap statement_nodes e in
-    let dec : 4 * statement_nodes s ≡ t = c.decreases in
-    let fall : 4 * (statement_nodes (tstmt c.deref-in-If-default-default-Some.result.now) + statement_nodes (tstmt c.deref-in-If-default-default-Some-2.result.now)) + 3 < t = omega (arith, kn, dec) in
+    let fall : 4 * (statement_nodes a + maybe_statement_nodes rest) + 3 < t = omega (arith, kn, dec) in
     (fall, subst (λ z. CanLowerOne c.args.s.now c.args.exits.continues z c.args.out.now) e c.requires.room)
 
 pub statement-for_loop-requires : goal.statement-for_loop-requires
 statement-for_loop-requires t c =
     let s = tstmt c.args.a.now in
-    let z = ForZ c.as_slice-made-in-For-default-None-default-default-default.result.now NoneZ (maybe_texpr c.as_ref.result) (maybe_texpr c.as_ref-in-For-default-None-default-default-default.result) (tstmt c.deref-in-For-default-None-default-default-default.result.now) in
-    let e : s ≡ z = search (rules, the_lemmas) in
+    let made = c.as_slice-made-in-For.result.now in
+    let first = other_of c.in-For.first in
+    let test = maybe_is c.as_ref.result c.in-For.test c.as_ref.ensures.value in
+    let step = maybe_is c.as_ref-in-For.result c.in-For.step c.as_ref-in-For.ensures.value in
+    let a = tstmt c.deref-in-For.result.now in
+    let z = ForZ made first (maybe_texpr c.as_ref.result) (maybe_texpr c.as_ref-in-For.result) a in
+    let same = view-For c.in-For.made c.in-For.first c.in-For.test c.in-For.step c.in-For.body in
+    let e : s ≡ z = ap tstmt c.in-For.is ∙ same ∙ (λ i. ForZ (sym c.as_slice-made-in-For.ensures i) first (test i) (step i) (tstmt (sym c.deref-in-For.ensures i))) in
     let kn : statement_nodes s ≡ statement_nodes z = ap statement_nodes e in
     let dec : 4 * statement_nodes s ≡ t = c.decreases in
-    let fall : 4 * (0 + statement_nodes (tstmt c.deref-in-For-default-None-default-default-default.result.now)) + 2 < t = omega (arith, kn, dec) in
-    (fall, subst (λ z. CanLowerOne c.args.s.now c.args.exits.continues z c.args.out.now) e c.requires.room)
-
-pub statement-for_loop-requires-in-For-default-Some-default-default-default : goal.statement-for_loop-requires-in-For-default-Some-default-default-default
-statement-for_loop-requires-in-For-default-Some-default-default-default t c =
-    let s = tstmt c.args.a.now in
-    let z = ForZ c.as_slice-made-in-For-default-Some-default-default-default.result.now (SomeZ (tstmt c.deref-in-For-default-Some-default-default-default.result.now)) (maybe_texpr c.as_ref-in-For-default-Some-default-default-default.result) (maybe_texpr c.as_ref-in-For-default-Some-default-default-default-2.result) (tstmt c.deref-in-For-default-Some-default-default-default-2.result.now) in
-    let e : s ≡ z = search (rules, the_lemmas) in
-    let kn : statement_nodes s ≡ statement_nodes z = ap statement_nodes e in
-    let dec : 4 * statement_nodes s ≡ t = c.decreases in
-    let fall : 4 * (statement_nodes (tstmt c.deref-in-For-default-Some-default-default-default.result.now) + statement_nodes (tstmt c.deref-in-For-default-Some-default-default-default-2.result.now)) + 2 < t = omega (arith, kn, dec) in
+    let fall : 4 * (maybe_statement_nodes first + statement_nodes a) + 2 < t = omega (arith, kn, dec) in
     (fall, subst (λ z. CanLowerOne c.args.s.now c.args.exits.continues z c.args.out.now) e c.requires.room)
 
 pub statement-switch-requires : goal.statement-switch-requires
@@ -106,10 +94,10 @@ nested-statement-answer-requires t c =
 pub other-statement-requires : goal.other-statement-requires
 other-statement-requires t c =
     let h = shape_of c.args.s.now in
-    let e : other_of c.args.a ≡ SomeZ (tstmt c.in-Some.a.now) = ap other_of c.in-Some.is in
-    let kn : maybe_statement_nodes (other_of c.args.a) ≡ statement_nodes (tstmt c.in-Some.a.now) = ap maybe_statement_nodes e in
-    let dec : 4 * maybe_statement_nodes (other_of c.args.a) + 1 ≡ t = c.decreases in
-    let fall : 4 * statement_nodes (tstmt c.in-Some.a.now) < t = omega (arith, kn, dec) in
+    let e : other_of c.args.a.now ≡ SomeZ (tstmt c.deref.result.now) = ap other_of c.in-Some.is ∙ ap (λ z. SomeZ (tstmt z)) (sym c.deref.ensures) in
+    let kn : maybe_statement_nodes (other_of c.args.a.now) ≡ statement_nodes (tstmt c.deref.result.now) = ap maybe_statement_nodes e in
+    let dec : 4 * maybe_statement_nodes (other_of c.args.a.now) + 1 ≡ t = c.decreases in
+    let fall : 4 * statement_nodes (tstmt c.deref.result.now) < t = omega (arith, kn, dec) in
     (fall, subst (λ z. CanLower c.args.exits.continues (other_temps z) (other_sizes h z) (maybe_statement_nodes z) c.args.out.now) e c.requires.room)
 
 pub block-statements-requires : goal.block-statements-requires
@@ -125,7 +113,7 @@ choice-nested-requires t c =
     let h = shape_of c.args.s.now in
     let x = texpr c.args.x.now in
     let a = tstmt c.args.branches.0.now in
-    let rest = other_of c.args.branches.1 in
+    let rest = other_of c.args.branches.1.now in
     let kl : length (stmt_sizes h (IfZ x a rest)) ≡ length (value_sizes h x) + (length (stmt_sizes h a) + length (other_sizes h rest)) = if_length h (IfZ x a rest) x a rest refl in
     let dec : 4 * (statement_nodes a + maybe_statement_nodes rest) + 3 ≡ t = c.decreases in
     let fall : 4 * statement_nodes a + 1 < t = omega (arith, dec) in
@@ -194,6 +182,25 @@ pub statement-returns-in-Block : goal.statement-returns-in-Block
 statement-returns-in-Block t c =
     let e : tstmt c.args.a.now ≡ BlockZ c.as_slice-made.result.now (tstmts (map tstmt c.as_slice.result.now)) = search (rules, the_lemmas) in
     record { adds = subst (λ z. OnOk c.block.result (AddsStatement c.args.s.now c.args.exits z c.args.out.now c.block.new.out)) (sym e) c.block.ensures.adds }
+
+pub statement-returns-in-If : goal.statement-returns-in-If
+statement-returns-in-If t c =
+    let rest = other_of c.in-If.rest in
+    let e : tstmt c.args.a.now ≡ IfZ (texpr c.in-If.x) (tstmt c.deref.result.now) rest = ap tstmt c.in-If.is ∙ view-If c.in-If.x c.in-If.body c.in-If.rest ∙ ap (λ b. IfZ (texpr c.in-If.x) (tstmt b) rest) (sym c.deref.ensures) in
+    record { adds = subst (λ z. OnOk c.choice.result (AddsStatement c.args.s.now c.args.exits z c.args.out.now c.choice.new.out)) (sym e) c.choice.ensures.adds }
+
+pub statement-returns-in-For : goal.statement-returns-in-For
+statement-returns-in-For t c =
+    let s = tstmt c.args.a.now in
+    let made = c.as_slice-made-in-For.result.now in
+    let first = other_of c.in-For.first in
+    let test = maybe_is c.as_ref.result c.in-For.test c.as_ref.ensures.value in
+    let step = maybe_is c.as_ref-in-For.result c.in-For.step c.as_ref-in-For.ensures.value in
+    let a = tstmt c.deref-in-For.result.now in
+    let z = ForZ made first (maybe_texpr c.as_ref.result) (maybe_texpr c.as_ref-in-For.result) a in
+    let same = view-For c.in-For.made c.in-For.first c.in-For.test c.in-For.step c.in-For.body in
+    let e : s ≡ z = ap tstmt c.in-For.is ∙ same ∙ (λ i. ForZ (sym c.as_slice-made-in-For.ensures i) first (test i) (step i) (tstmt (sym c.deref-in-For.ensures i))) in
+    record { adds = subst (λ z. OnOk c.for_loop.result (AddsStatement c.args.s.now c.args.exits z c.args.out.now c.for_loop.new.out)) (sym e) c.for_loop.ensures.adds }
 
 pub statement-returns-in-Switch : goal.statement-returns-in-Switch
 statement-returns-in-Switch t c =

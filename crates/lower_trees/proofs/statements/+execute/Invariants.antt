@@ -38,16 +38,16 @@ abbrev pub decreases-nested : goal.decreases-nested
 decreases-nested l = 4 * statement_nodes (tstmt l.a.now) + 1
 
 abbrev pub decreases-nested_other : goal.decreases-nested_other
-decreases-nested_other l = 4 * maybe_statement_nodes (other_of l.a) + 2
+decreases-nested_other l = 4 * maybe_statement_nodes (other_of l.a.now) + 2
 
 abbrev pub decreases-other : goal.decreases-other
-decreases-other l = 4 * maybe_statement_nodes (other_of l.a) + 1
+decreases-other l = 4 * maybe_statement_nodes (other_of l.a.now) + 1
 
 abbrev pub decreases-block : goal.decreases-block
 decreases-block l = 4 * statements_nodes (tstmts (map tstmt l.body.now)) + 2
 
 abbrev pub decreases-choice : goal.decreases-choice
-decreases-choice l = 4 * (statement_nodes (tstmt l.branches.0.now) + maybe_statement_nodes (other_of l.branches.1)) + 3
+decreases-choice l = 4 * (statement_nodes (tstmt l.branches.0.now) + maybe_statement_nodes (other_of l.branches.1.now)) + 3
 
 abbrev pub decreases-while_loop : goal.decreases-while_loop
 decreases-while_loop l = 4 * statement_nodes (tstmt l.body.now) + 2
@@ -56,7 +56,7 @@ abbrev pub decreases-do_while_loop : goal.decreases-do_while_loop
 decreases-do_while_loop l = 4 * statement_nodes (tstmt l.body.now) + 2
 
 abbrev pub decreases-for_loop : goal.decreases-for_loop
-decreases-for_loop l = 4 * (maybe_statement_nodes (other_of l.of.head.0) + statement_nodes (tstmt l.of.body.now)) + 2
+decreases-for_loop l = 4 * (maybe_statement_nodes (other_of l.of.head.0.now) + statement_nodes (tstmt l.of.body.now)) + 2
 
 abbrev pub decreases-switch : goal.decreases-switch
 decreases-switch l = 4 * arms_nodes (tarms (map tarm l.of.arms.now)) + 3

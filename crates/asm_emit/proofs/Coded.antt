@@ -148,7 +148,7 @@ module _ (W : Whole) (F : Frame) where
   taking_code _ h = absurd h
 
   one_or_more_code : (o : OpT Where) (c : NodesT Where) → AreCode (one_or_more W F o (in_one W F o c))
-  one_or_more_code o c = one_or_more_is W F AreCode (λ v. Unit {0}) o c (λ t n e. (tt, tt, λ m. tt)) (λ t k e. (tt, tt, λ m. tt)) (op_code o) taking_code (λ p r i lt h. (fetch_code F p r, taking_code i h), λ r q i lr lq h. (tt, taking_code i h))
+  one_or_more_code o c = one_or_more_is W F AreCode (λ v. Unit {0}) o c (λ t n e. (tt, tt, λ x y. tt)) (λ t k e. (tt, tt, λ x y. tt)) (op_code o) taking_code (λ p r i lt h. (fetch_code F p r, taking_code i h), λ r q i lr lq h. (tt, taking_code i h))
 
   puts_code : (c : NodesT Where) (k : ℕ) → AreCode (puts_items W c k)
   puts_code (Do o c) (suc k) = joined (put_item (word_put W o)) (puts_items W c k) (put (word_put W o)) (puts_code c k)
@@ -171,7 +171,7 @@ module _ (W : Whole) (F : Frame) where
 
   next_code : (o : OpT Where) (c : NodesT Where) → AreCode (next_items W F o c)
   next_code o c =
-      next_is W F AreCode (λ v. Unit {0}) o c (λ t n e. (tt, tt, λ m. tt)) (λ t k e. (tt, tt, λ m. tt)) taking_code (λ p r i lt h. (fetch_code F p r, taking_code i h), λ r q i lr lq h. (tt, taking_code i h))
+      next_is W F AreCode (λ v. Unit {0}) o c (λ t n e. (tt, tt, λ x y. tt)) (λ t k e. (tt, tt, λ x y. tt)) taking_code (λ p r i lt h. (fetch_code F p r, taking_code i h), λ r q i lr lq h. (tt, taking_code i h))
       (λ u t a b e. (fetch_code F a 9, brought_code F b 10 _ (tt, tt))) (group_code o c)
 
   copy_code : (f : Option ℕ) (y : Copying) → AreCode (items_from f y)

@@ -163,7 +163,7 @@ module _ (names : List (List ℕ)) (body : NodesT Where) where
 
     one_or_more_ahead : (o : OpT Where) (c : NodesT Where) (later : List AsmItem) → IsOp x m o → Ahead (one_or_more W F o (in_one W F o c)) later
     one_or_more_ahead o c later ok =
-        one_or_more_is W F (λ xs. Ahead xs later) (λ v. Unit {0}) o c (λ t n e. (tt, tt, λ m. tt)) (λ t k e. (tt, tt, λ m. tt)) (op_ahead o later ok) (taking_ahead later) (λ p r i lt h. (fetch_ahead F p r _, taking_ahead later i h), λ r q i lr lq h. (tt, taking_ahead later i h))
+        one_or_more_is W F (λ xs. Ahead xs later) (λ v. Unit {0}) o c (λ t n e. (tt, tt, λ x y. tt)) (λ t k e. (tt, tt, λ x y. tt)) (op_ahead o later ok) (taking_ahead later) (λ p r i lt h. (fetch_ahead F p r _, taking_ahead later i h), λ r q i lr lq h. (tt, taking_ahead later i h))
 
     puts_go : (c : NodesT Where) (k : ℕ) (later : List AsmItem) → Ahead (puts_items W c k) later
     puts_go (Do o c) (suc k) later = ahead_append (put_item (word_put W o)) (puts_items W c k) later (put (word_put W o) _) (puts_go c k later)
@@ -186,7 +186,7 @@ module _ (names : List (List ℕ)) (body : NodesT Where) where
 
     next_ahead : (o : OpT Where) (c : NodesT Where) (later : List AsmItem) → IsOp x m o → Ahead (next_items W F o c) later
     next_ahead o c later ok =
-        next_is W F (λ xs. Ahead xs later) (λ v. Unit {0}) o c (λ t n e. (tt, tt, λ m. tt)) (λ t k e. (tt, tt, λ m. tt)) (taking_ahead later) (λ p r i lt h. (fetch_ahead F p r _, taking_ahead later i h), λ r q i lr lq h. (tt, taking_ahead later i h))
+        next_is W F (λ xs. Ahead xs later) (λ v. Unit {0}) o c (λ t n e. (tt, tt, λ x y. tt)) (λ t k e. (tt, tt, λ x y. tt)) (taking_ahead later) (λ p r i lt h. (fetch_ahead F p r _, taking_ahead later i h), λ r q i lr lq h. (tt, taking_ahead later i h))
         (λ u t a b e. (fetch_ahead F a 9 _, brought_ahead F b 10 _ later (tt, tt))) (group_ahead o c later ok)
 
     call_ahead : (t : Option Where) (g : ℕ) (args : List Where) (later : List AsmItem) → g < length x.functions → CallsTo g body → Ahead (call_items W F t g args) later

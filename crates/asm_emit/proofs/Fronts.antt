@@ -19,9 +19,9 @@ pub none_due : (k : Option ℕ) → labels_due k 0 ≡ 0
 none_due None = refl
 none_due (Some k) = refl
 
-pub none_summed : (F : Frame) (c : NodesT Where) → front_summed F None c ≡ None
-none_summed F (Do p c) = refl
-none_summed F _ = refl
+pub none_summed : (gs : List ℕ) (F : Frame) (c : NodesT Where) → front_summed gs F None c ≡ None
+none_summed gs F (Do p c) = refl
+none_summed gs F _ = refl
 
 -- without a known word nothing is made of one
 pub none_made : (F : Frame) (c : NodesT Where) → made_with F None c ≡ None
@@ -36,23 +36,23 @@ both : {A : Type 0} (b : Bool) (x : A) → x ≡ cond b x x
 both true x = refl
 both false x = refl
 
-none_known : (F : Frame) (put : Option (ℕ × ℕ)) → None ≡ cond (is_spared F put) (with_known F put None) None
-none_known F None = refl
-none_known F (Some (r, w)) = both (is_spared F (Some (r, w))) None
+none_known : (gs : List ℕ) (F : Frame) (put : Option (ℕ × ℕ)) → None ≡ cond (is_spared F put) (with_known gs F put None) None
+none_known gs F None = refl
+none_known gs F (Some (r, w)) = both (is_spared F (Some (r, w))) None
 
 module _ (W : Whole) (F : Frame) where
-  summed : (o : OpT Where) (c : NodesT Where) → in_one W F o c ≡ front_summed F (word_put W o) c
+  summed : (o : OpT Where) (c : NodesT Where) → in_one W F o c ≡ front_summed W.globals F (word_put W o) c
   unfolding in_one
   summed o (Do p c) = refl
-  summed o _ = none_known F (word_put W o)
+  summed o _ = none_known W.globals F (word_put W o)
 
   -- what stands ahead, and how much is done with it
   abbrev pub led_front : Option (ℕ × ℕ) → NodesT Where → NodesT Where → Option ℕ → List AsmItem
-  led_front put first c None = ahead_items (front_summed F put c)
+  led_front put first c None = ahead_items (front_summed W.globals F put c)
   led_front put first c (Some j) = puts_items W first j
 
   abbrev pub led_count : Option (ℕ × ℕ) → NodesT Where → Option ℕ → Option ℕ
-  led_count put c None = ahead_more (front_summed F put c)
+  led_count put c None = ahead_more (front_summed W.globals F put c)
   led_count put c (Some j) = Some j
 
   record Fronts (first : NodesT Where) (made : Option (ℕ × Made)) (put : Option (ℕ × ℕ)) (call : Bool) (c : NodesT Where) : Type 0 where
@@ -78,7 +78,7 @@ module _ (W : Whole) (F : Frame) where
   unfolding lead
   call_fronts c =
       let m = sym (none_made F c) in
-      let r = sym (none_summed F c) in
+      let r = sym (none_summed W.globals F c) in
       record {
         items = λ k. both (k == 0) [] ∙ (λ i. cond (k == 0) (made_or F (m i) (ahead_items (r i))) []);
         more = λ k. both (k == 0) None ∙ (λ i. cond (k == 0) (more_ahead (m i) (ahead_more (r i))) None);

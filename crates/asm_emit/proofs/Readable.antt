@@ -218,7 +218,7 @@ module _ (x : CodeT Where) (W : Whole) (words : list_all is_word W.names ≡ tru
 
     one_or_more_fine : (o : OpT Where) (c : NodesT Where) → IsOp x m o → AllFine (one_or_more W F o (in_one W F o c))
     one_or_more_fine o c ok =
-        one_or_more_is W F AllFine (λ v. v < 2 ^ 32) o c (λ t n e. (subst (IsOp x m) e ok, in_words 0 n, λ m. sum_in_words n m)) (λ t k e. (addresses k, in_words 0 (get_or W.globals k 0), λ m. sum_in_words (get_or W.globals k 0) m)) (op_fine o ok) taking_fine
+        one_or_more_is W F AllFine (λ v. v < 2 ^ 32) o c (λ t n e. (subst (IsOp x m) e ok, in_words 0 n, λ x y. sum_in_words x y)) (λ t k e. (addresses k, in_words 0 (get_or W.globals k 0), λ x y. sum_in_words x y)) (op_fine o ok) taking_fine
         (λ p r i lt h. (fetch_fine F p r lt, taking_fine i h), λ r q i lr lq h. ((lr, (lq, tt)), taking_fine i h))
 
     put_fine : (o : OpT Where) → IsOp x m o → AllFine (put_item (word_put W o))
@@ -243,7 +243,7 @@ module _ (x : CodeT Where) (W : Whole) (words : list_all is_word W.names ≡ tru
 
     next_fine : (o : OpT Where) (c : NodesT Where) (bs : List Bool) → AreNodes x m bs (Do o c) → AllFine (next_items W F o c)
     next_fine o c bs ok =
-        next_is W F AllFine (λ v. v < 2 ^ 32) o c (λ t n e. (subst (IsOp x m) e ok.0, in_words 0 n, λ m. sum_in_words n m)) (λ t k e. (addresses k, in_words 0 (get_or W.globals k 0), λ m. sum_in_words (get_or W.globals k 0) m)) taking_fine
+        next_is W F AllFine (λ v. v < 2 ^ 32) o c (λ t n e. (subst (IsOp x m) e ok.0, in_words 0 n, λ x y. sum_in_words x y)) (λ t k e. (addresses k, in_words 0 (get_or W.globals k 0), λ x y. sum_in_words x y)) taking_fine
         (λ p r i lt h. (fetch_fine F p r lt, taking_fine i h), λ r q i lr lq h. ((lr, (lq, tt)), taking_fine i h))
         (λ u t a b e. (fetch_fine F a 9 (omega arith), join (brings F b 10) (item.Op (instr.Two u 9 (src.Reg (hand b 10))) ∷ []) (brings_fine F b 10 (omega arith)) ((omega arith, (hand_fine b 10 (omega arith), tt)), tt))) (group_fine o c bs ok)
 

@@ -5,7 +5,7 @@ ghost use Rattle.mid_code.specs.Functions.{op_before, node, before, nodes, liste
 ghost use Rattle.asm_laws.specs.Operations.{first_word, sum_of, first_place, in_slot, unturned, copied, copied_address};
 ghost use Rattle.asm_laws.specs.Pieces.{turned, other_word, loads_there};
 ghost use Rattle.asm_laws.specs.Operations.{with_sum};
-ghost use Rattle.asm_laws.specs.Operations.{taken, brought, either, added, known, using_it, with_known, before_it};
+ghost use Rattle.asm_laws.specs.Operations.{taken, brought, either, added, known, addend, using_it, with_known, before_it};
 ghost use Rattle.asm_emit.specs.inner.Listed.{front_put, front_word, front_summed, ahead_items, ahead_more, is_call};
 ghost use Rattle.asm_emit.specs.inner.Listed.{front_items, front_more, labels_due, node_labels};
 ghost use Rattle.asm_laws.specs.Operations.{put_item, puts_items};
@@ -254,7 +254,7 @@ fn either(one: Option<Instr<Imm>>, other: Option<Instr<Imm>>) -> Option<Instr<Im
 }
 
 /// What is added where an operator works on a word and a known one.
-fn added(o: Two, word: u32) -> Option<u32>
+pub(crate) fn added(o: Two, word: u32) -> Option<u32>
     ensures { result ≡ added o word }
 {
     match o {
@@ -264,8 +264,18 @@ fn added(o: Two, word: u32) -> Option<u32>
     }
 }
 
+/// What an operator adds that adds a word or takes it away.
+fn addend(o: Two, word: u32) -> u32
+    ensures { result ≡ addend o word }
+{
+    match o {
+        Two::ISUB => 0u32.wrapping_sub(word),
+        _ => word,
+    }
+}
+
 /// An operator on the word of a place and a known one, with what it adds where it does.
-fn known(
+pub(crate) fn known(
     s: &Scope<'_>,
     o: Two,
     t: Reg,
@@ -286,55 +296,72 @@ fn known(
 }
 
 /// The instruction that uses a known word, behind one where there is one.
-pub(crate) fn using_it(s: &Scope<'_>, word: u32, u: &Used) -> (Option<Instr<Imm>>, Instr<Imm>)
-    ensures { result ≡ using_it (frame s.now) word u.now }
+fn using_it(w: &Around<'_>, s: &Scope<'_>, word: u32, u: &Used) -> (Option<Instr<Imm>>, Instr<Imm>)
+    ensures { result ≡ using_it w.now.globals.now (frame s.now) word u.now }
 {
-    let w = Either::Left(word);
+    let number = Either::Left(word);
     match u {
         Used::Computed(o, t, p) => known(s, *o, *t, *p, word, added(*o, word)),
-        Used::Loaded(t, None) => (None, Instr::Mov(Mov::RegAt(*t, w))),
+        Used::Loaded(t, None) => (None, Instr::Mov(Mov::RegAt(*t, number))),
         Used::Loaded(t, Some(p)) => (
             brought(s, *p, 9),
-            Instr::Mov(Mov::RegAtOff(*t, hand(*p, 9), w)),
+            Instr::Mov(Mov::RegAtOff(*t, hand(*p, 9), number)),
         ),
         Used::Indexed(t, q) => (
             Some(Instr::Two(Two::IADD, *t, Src::Reg(*q))),
-            Instr::Mov(Mov::RegAtOff(*t, *t, w)),
+            Instr::Mov(Mov::RegAtOff(*t, *t, number)),
         ),
         Used::Offset(t, p, n) => (
             brought(s, *p, 9),
             Instr::Mov(Mov::RegAtOff(*t, hand(*p, 9), Either::Left(word.wrapping_add(*n)))),
         ),
-        Used::Stored(None, a) => (brought(s, *a, 10), Instr::Mov(Mov::AtReg(w, hand(*a, 10)))),
+        Used::Element(o, t, p, k) => {
+            let offset = addend(*o, word).wrapping_add(at_or(w.globals, *k, 0));
+            (
+                brought(s, *p, 9),
+                Instr::Mov(Mov::RegAtOff(*t, hand(*p, 9), Either::Left(offset))),
+            )
+        }
+        Used::Stored(None, a) => (
+            brought(s, *a, 10),
+            Instr::Mov(Mov::AtReg(number, hand(*a, 10))),
+        ),
         Used::Stored(Some(p), a) => (
             either(brought(s, *p, 9), brought(s, *a, 10)),
-            Instr::Mov(Mov::AtOffReg(hand(*p, 9), w, hand(*a, 10))),
+            Instr::Mov(Mov::AtOffReg(hand(*p, 9), number, hand(*a, 10))),
         ),
-        Used::Sent(p) => (None, Instr::Out(port(*p), Src::Imm(w))),
+        Used::Sent(p) => (None, Instr::Out(port(*p), Src::Imm(number))),
     }
 }
 
 /// What is done with a word that was put into register r, which is spare.
-fn with_known(s: &Scope<'_>, r: Reg, word: u32, used: Option<(u32, Used)>) -> Option<Together>
-    ensures { result ≡ with_known (frame s.now) (Some (r, word)) used }
+fn with_known(
+    w: &Around<'_>,
+    s: &Scope<'_>,
+    r: Reg,
+    word: u32,
+    used: Option<(u32, Used)>,
+) -> Option<Together>
+    ensures { result ≡ with_known w.now.globals.now (frame s.now) (Some (r, word)) used }
 {
     let (more, u) = used?;
-    let (first, i) = using_it(s, word, &u);
+    let (first, i) = using_it(w, s, word, &u);
     Some((more, first, i))
 }
 
 /// What is done with an operation, where a known word was put into register r.
 fn with_op(
+    w: &Around<'_>,
     s: &Scope<'_>,
     r: Reg,
     word: u32,
     o: &Op<Where>,
     rest: &[Node<Where>],
 ) -> Option<Together>
-    ensures { result ≡ front_summed (frame s.now) (Some (r, word)) (op_before o.now (nodes rest.now)) }
+    ensures { result ≡ front_summed w.now.globals.now (frame s.now) (Some (r, word)) (op_before o.now (nodes rest.now)) }
 {
     if s.registers == 8 && r.number() == 8 {
-        with_known(s, r, word, used_by_op(o, rest))
+        with_known(w, s, r, word, used_by_op(o, rest))
     } else {
         with_word(s, r, word, o, rest)
     }
@@ -354,12 +381,12 @@ pub(crate) fn word_put(w: &Around<'_>, o: &Op<Where>) -> Option<(Reg, u32)>
 /// What does an operation together with some of those behind it, where there is something.
 #[tactic(auto, using(crate::proofs::Fronts::none_summed))]
 fn in_one(w: &Around<'_>, s: &Scope<'_>, o: &Op<Where>, rest: &[Node<Where>]) -> Option<Together>
-    ensures { result ≡ front_summed (frame s.now) (front_put (whole w.now) (op_before o.now Stop)) (nodes rest.now) }
+    ensures { result ≡ front_summed w.now.globals.now (frame s.now) (front_put (whole w.now) (op_before o.now Stop)) (nodes rest.now) }
 {
     let (r, word) = word_put(w, o)?;
     let (x, after) = rest.split_first()?;
     match x {
-        Node::Do(p) => with_op(s, r, word, p, after),
+        Node::Do(p) => with_op(w, s, r, word, p, after),
         _ => None,
     }
 }
@@ -393,8 +420,9 @@ fn put_in_one(
     rest: &[Node<Where>],
 ) -> Result<Option<u32>, Memory>
     ensures items { OnOk result (out.new.items ≡ out.old.items
-        ++ ahead_items (front_summed (frame s.now) (front_put (whole w.now) (op_before o.now Stop)) (nodes rest.now))) }
-    ensures more { IfOk result (λ k. k ≡ ahead_more (front_summed (frame s.now) (front_put (whole w.now) (op_before o.now Stop)) (nodes rest.now))) }
+        ++ ahead_items (front_summed w.now.globals.now (frame s.now) (front_put (whole w.now) (op_before o.now Stop)) (nodes rest.now))) }
+    ensures more { IfOk result (λ k. k ≡ ahead_more
+        (front_summed w.now.globals.now (frame s.now) (front_put (whole w.now) (op_before o.now Stop)) (nodes rest.now))) }
 {
     match in_one(w, s, o, rest) {
         Some((more, first, i)) => {

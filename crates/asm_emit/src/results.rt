@@ -7,12 +7,12 @@ ghost use Rattle.asm_laws.specs.Operations.{giving, given_first, made_known, mad
 ghost use Rattle.asm_emit.specs.inner.Listed.{front_both, op_made};
 ghost use Rattle.asm_emit.specs.inner.View.{frame, whole};
 
-use crate::ahead::{put_before, using_it, word_put};
+use crate::ahead::{added, known, put_before, word_put};
 use crate::hands::{brings, fetches, hand, op};
 use crate::scope::{Around, Scope};
 use crate::spare::operand;
 use asm_items::AsmItem;
-use asm_laws::{Made, Used};
+use asm_laws::Made;
 use kit_base::Memory;
 use mid_code::{Node, Op, Where};
 use v32_isa::{Instr, Reg, Src, Two};
@@ -145,7 +145,7 @@ pub(crate) fn put_made(out: &mut Vec<AsmItem>, s: &Scope<'_>, y: Made) -> Result
             op(out, Instr::Two(o, Reg::at(9), Src::Reg(hand(b, 10))))
         }
         Made::Known(o, a, word) => {
-            let (first, i) = using_it(s, word, &Used::Computed(o, Reg::at(9), a));
+            let (first, i) = known(s, o, Reg::at(9), a, word, added(o, word));
             put_before(out, first)?;
             op(out, i)
         }

@@ -5,7 +5,8 @@ ghost use Rattle.mid_code.specs.Functions.{op_before, node, before, nodes, funct
 ghost use Rattle.mid_code.specs.Operands.{listed_uses};
 ghost use Rattle.asm_laws.specs.Pieces.{is_in};
 ghost use Rattle.asm_laws.specs.Spare.{beside, operand, computed, loaded, in_slots, stored, at_address, at_sum, used_by};
-ghost use Rattle.asm_laws.specs.Spare.{index, index_behind, indexed, offset_load, offset_sum, offset_step, offset_behind, offset, or_else};
+ghost use Rattle.asm_laws.specs.Spare.{index, index_behind, indexed, offset_load, offset_sum, offset_step, offset_behind, offset};
+ghost use Rattle.asm_laws.specs.Spare.{element_behind, adds, element, or_else};
 ghost use Rattle.asm_laws.specs.Spare.{count, are_others, spares, held_registers};
 ghost use Rattle.asm_emit.specs.inner.Spared.{first_puts, group_behind, spares_from, held_all};
 
@@ -176,15 +177,15 @@ fn indexed(t: Where, other: Option<Where>, rest: &[Node<Where>]) -> Option<(u32,
     }
 }
 
-/// A load into register t, at the sum of the word that stands there and a number that is put into register 8 right before.
-fn offset_load(t: Reg, p: Where, n: u32, rest: &[Node<Where>]) -> Option<(u32, Used)>
-    ensures { result ≡ offset_load t p n (nodes rest.now) }
+/// A load into register t, at the sum of the word that stands there and one that is put into register 8 right before; and what is done in all.
+fn offset_load(t: Reg, u: Used, rest: &[Node<Where>]) -> Option<(u32, Used)>
+    ensures { result ≡ offset_load t u (nodes rest.now) }
 {
     let (x, _) = rest.split_first()?;
     match x {
         Node::Do(Op::Load(d, q)) => {
             if is_in(*d, t) && is_spare(*q) {
-                Some((4, Used::Offset(t, p, n)))
+                Some((4, u))
             } else {
                 None
             }
@@ -195,18 +196,17 @@ fn offset_load(t: Reg, p: Where, n: u32, rest: &[Node<Where>]) -> Option<(u32, U
 
 fn offset_sum(
     t: Reg,
-    p: Where,
-    n: u32,
+    u: Used,
     s: Where,
     other: Option<Where>,
     rest: &[Node<Where>],
 ) -> Option<(u32, Used)>
-    ensures { result ≡ offset_sum t p n s other (nodes rest.now) }
+    ensures { result ≡ offset_sum t u s other (nodes rest.now) }
 {
     match other {
         Some(Where::Reg(q)) => {
             if is_in(Where::Reg(q), t) && is_spare(s) {
-                offset_load(t, p, n, rest)
+                offset_load(t, u, rest)
             } else {
                 None
             }
@@ -216,16 +216,17 @@ fn offset_sum(
     }
 }
 
-fn offset_step(t: Reg, p: Where, n: u32, rest: &[Node<Where>]) -> Option<(u32, Used)>
-    ensures { result ≡ offset_step t p n (nodes rest.now) }
+fn offset_step(t: Reg, u: Used, rest: &[Node<Where>]) -> Option<(u32, Used)>
+    ensures { result ≡ offset_step t u (nodes rest.now) }
 {
     let (x, after) = rest.split_first()?;
     match x {
-        Node::Do(Op::Step(s, a, b)) => offset_sum(t, p, n, *s, beside(*a, *b), after),
+        Node::Do(Op::Step(s, a, b)) => offset_sum(t, u, *s, beside(*a, *b), after),
         _ => None,
     }
 }
 
+/// A number.
 fn offset_behind(t: Reg, p: Where, rest: &[Node<Where>]) -> Option<(u32, Used)>
     ensures { result ≡ offset_behind t p (nodes rest.now) }
 {
@@ -233,7 +234,7 @@ fn offset_behind(t: Reg, p: Where, rest: &[Node<Where>]) -> Option<(u32, Used)>
     match x {
         Node::Do(Op::Const(s, n)) => {
             if is_spare(*s) {
-                offset_step(t, p, *n, after)
+                offset_step(t, Used::Offset(t, p, *n), after)
             } else {
                 None
             }
@@ -253,6 +254,46 @@ fn offset(t: Where, other: Option<Where>, rest: &[Node<Where>]) -> Option<(u32, 
     }
 }
 
+/// The address of a global, behind what an operator makes in register t of the word of a place and the known one.
+fn element_behind(o: Two, t: Reg, p: Where, rest: &[Node<Where>]) -> Option<(u32, Used)>
+    ensures { result ≡ element_behind o t p (nodes rest.now) }
+{
+    let (x, after) = rest.split_first()?;
+    match x {
+        Node::Do(Op::Global(s, k)) => {
+            if is_spare(*s) {
+                offset_step(t, Used::Element(o, t, p, *k), after)
+            } else {
+                None
+            }
+        }
+        _ => None,
+    }
+}
+
+fn adds(o: Two) -> bool
+    ensures { result ≡ adds o }
+{
+    match o {
+        Two::IADD => true,
+        Two::ISUB => true,
+        _ => false,
+    }
+}
+
+/// The same behind a sum or a difference of the word of a place and the known one.
+fn element(t: Where, by: Option<(Two, Where)>, rest: &[Node<Where>]) -> Option<(u32, Used)>
+    ensures { result ≡ element t by (nodes rest.now) }
+{
+    let Where::Reg(t) = t else { return None };
+    let (o, p) = by?;
+    if adds(o) && register(t).number() != 8 {
+        element_behind(o, register(t), p, rest)
+    } else {
+        None
+    }
+}
+
 fn or_else(first: Option<(u32, Used)>, other: Option<(u32, Used)>) -> Option<(u32, Used)>
     ensures { result ≡ or_else first other }
 {
@@ -267,7 +308,10 @@ pub(crate) fn used_by_op(o: &Op<Where>, rest: &[Node<Where>]) -> Option<(u32, Us
     ensures { result ≡ used_by (op_before o.now (nodes rest.now)) }
 {
     match o {
-        Op::Two(o, t, p, q) => computed(*t, operand(*o, *p, *q)),
+        Op::Two(o, t, p, q) => {
+            let by = operand(*o, *p, *q);
+            or_else(element(*t, by, rest), computed(*t, by))
+        }
         Op::Step(t, p, q) => {
             if is_spare(*t) {
                 at_sum(beside(*p, *q), rest)

@@ -19,11 +19,11 @@ use Rattle.mid_code.specs.Code.{OpT, ConstO, TwoO, GlobalO, StepO, LoadO, StoreO
 use Rattle.asm_laws.specs.declared.made.Made.{Made}
 use Rattle.asm_laws.specs.declared.made.Made.TheVariants.{Both, Known}
 use Rattle.asm_laws.specs.declared.used.Used.{Used}
-use Rattle.asm_laws.specs.declared.used.Used.TheVariants.{Computed, Loaded, Indexed, Offset, Stored, Sent}
+use Rattle.asm_laws.specs.declared.used.Used.TheVariants.{Computed, Loaded, Indexed, Offset, Element, Stored, Sent}
 use Rattle.asm_laws.specs.Pieces.{register, is_in, turned, other_word, loads_there}
-use Rattle.asm_laws.specs.Spare.{beside, operand, in_slots, at_address, at_sum, index, index_behind, indexed, offset_load, offset_sum, offset_step, offset_behind, offset, or_else, used_by}
+use Rattle.asm_laws.specs.Spare.{beside, operand, in_slots, at_address, at_sum, index, index_behind, indexed, offset_load, offset_sum, offset_step, offset_behind, offset, adds, element_behind, element, or_else, used_by}
 use Rattle.asm_laws.specs.Spare as spare
-use Rattle.asm_laws.specs.Operations.{Frame, Whole, fetch, fetches, hand, op_items, word_put, first_word, summed, first_place, unturned, copied, copied_address, with_copy, with_sum, with_word, taken, brought, either, added, known, using_it, is_spared, with_known, with_more, in_one, before_it, one_or_more, puts_items, led_items, group_items, given_first, made_both, made_known, made_with, first_made, made_of, made_items, made_or, next_items}
+use Rattle.asm_laws.specs.Operations.{Frame, Whole, fetch, fetches, hand, op_items, word_put, first_word, summed, first_place, unturned, copied, copied_address, with_copy, with_sum, with_word, taken, brought, either, added, known, addend, using_it, is_spared, with_known, with_more, in_one, before_it, one_or_more, puts_items, led_items, group_items, given_first, made_both, made_known, made_with, first_made, made_of, made_items, made_or, next_items}
 use Rattle.asm_laws.specs.Operations as emitted
 use Rattle.asm_laws.specs.Copies.{lead}
 
@@ -33,12 +33,12 @@ module _ (V : ℕ → Type 0) where
   Fits None = Unit {0}
   Fits (Some (q, v)) = (q < 16) × V v
 
-  -- the same of a word that is put, of what is added where it is taken away, and of its sums with others
+  -- the same of a word that is put, of what is added where it is taken away, and of all sums
   abbrev Puts : Option (ℕ × ℕ) → Type 0
   Puts None = Unit {0}
-  Puts (Some (r, w)) = (r < 16) × V w × V (sub 0 w) × ((n : ℕ) → V (add w n))
+  Puts (Some (r, w)) = (r < 16) × V w × V (sub 0 w) × ((x y : ℕ) → V (add x y))
 
-  put_is : (W : Whole) (o : OpT Where) → ((t : Where) (n : ℕ) → o ≡ ConstO t n → V n × V (sub 0 n) × ((m : ℕ) → V (add n m))) → ((t : Where) (k : ℕ) → o ≡ GlobalO t k → V (get_or W.globals k 0) × V (sub 0 (get_or W.globals k 0)) × ((m : ℕ) → V (add (get_or W.globals k 0) m))) → Puts (word_put W o)
+  put_is : (W : Whole) (o : OpT Where) → ((t : Where) (n : ℕ) → o ≡ ConstO t n → V n × V (sub 0 n) × ((x y : ℕ) → V (add x y))) → ((t : Where) (k : ℕ) → o ≡ GlobalO t k → V (get_or W.globals k 0) × V (sub 0 (get_or W.globals k 0)) × ((x y : ℕ) → V (add x y))) → Puts (word_put W o)
   put_is W (ConstO (Reg r) n) f g = let v = f (Reg r) n refl in (omega arith, v.0, v.1, v.2)
   put_is W (GlobalO (Reg r) k) f g = let v = g (Reg r) k refl in (omega arith, v.0, v.1, v.2)
   put_is W _ f g = tt
@@ -163,18 +163,20 @@ module _ (W : Whole) (F : Frame) (P : List AsmItem → Type 0) (V : ℕ → Type
   Low (Loaded t p) = t < 16
   Low (Indexed t q) = (t < 16) × (q < 16)
   Low (Offset t p n) = t < 16
+  Low (Element o t p k) = t < 16
   Low (Stored p a) = Unit {0}
   Low (Sent port) = Unit {0}
 
-  used_is : (w : ℕ) (u : Used) → Low u → V w → V (sub 0 w) → ((n : ℕ) → V (add w n)) → One → Behind → P (before_it (using_it F w u).0 ++ item.Op (using_it F w u).1 ∷ [])
-  used_is w (Computed o t p) lt h g sums one two = known_is o t p w (added o w) lt h (added_is o w h g) one two
-  used_is w (Loaded t None) lt h g sums one two = one (instr.Mov (RegAt t (Left w))) (lt, h)
-  used_is w (Loaded t (Some p)) lt h g sums one two = brought_is p 9 (instr.Mov (RegAtOff t (hand p 9) (Left w))) (omega arith) (lt, hand_low p 9 (omega arith), h) one two
-  used_is w (Indexed t q) lt h g sums one two = two.1 t q (instr.Mov (RegAtOff t t (Left w))) lt.0 lt.1 (lt.0, lt.0, h)
-  used_is w (Offset t p n) lt h g sums one two = brought_is p 9 (instr.Mov (RegAtOff t (hand p 9) (Left (add w n)))) (omega arith) (lt, hand_low p 9 (omega arith), sums n) one two
-  used_is w (Stored None a) lt h g sums one two = brought_is a 10 (instr.Mov (AtReg (Left w) (hand a 10))) (omega arith) (hand_low a 10 (omega arith), h) one two
-  used_is w (Stored (Some p) a) lt h g sums one two = either_is p a (instr.Mov (AtOffReg (hand p 9) (Left w) (hand a 10))) (hand_low p 9 (omega arith), hand_low a 10 (omega arith), h) one two
-  used_is w (Sent port) lt h g sums one two = one (instr.Out (emitted.port port) (src.Imm (Left w))) (omega arith, h)
+  used_is : (gs : List ℕ) (w : ℕ) (u : Used) → Low u → V w → V (sub 0 w) → ((x y : ℕ) → V (add x y)) → One → Behind → P (before_it (using_it gs F w u).0 ++ item.Op (using_it gs F w u).1 ∷ [])
+  used_is gs w (Computed o t p) lt h g sums one two = known_is o t p w (added o w) lt h (added_is o w h g) one two
+  used_is gs w (Loaded t None) lt h g sums one two = one (instr.Mov (RegAt t (Left w))) (lt, h)
+  used_is gs w (Loaded t (Some p)) lt h g sums one two = brought_is p 9 (instr.Mov (RegAtOff t (hand p 9) (Left w))) (omega arith) (lt, hand_low p 9 (omega arith), h) one two
+  used_is gs w (Indexed t q) lt h g sums one two = two.1 t q (instr.Mov (RegAtOff t t (Left w))) lt.0 lt.1 (lt.0, lt.0, h)
+  used_is gs w (Offset t p n) lt h g sums one two = brought_is p 9 (instr.Mov (RegAtOff t (hand p 9) (Left (add w n)))) (omega arith) (lt, hand_low p 9 (omega arith), sums w n) one two
+  used_is gs w (Element o t p k) lt h g sums one two = brought_is p 9 (instr.Mov (RegAtOff t (hand p 9) (Left (add (addend o w) (get_or gs k 0))))) (omega arith) (lt, hand_low p 9 (omega arith), sums (addend o w) (get_or gs k 0)) one two
+  used_is gs w (Stored None a) lt h g sums one two = brought_is a 10 (instr.Mov (AtReg (Left w) (hand a 10))) (omega arith) (hand_low a 10 (omega arith), h) one two
+  used_is gs w (Stored (Some p) a) lt h g sums one two = either_is p a (instr.Mov (AtOffReg (hand p 9) (Left w) (hand a 10))) (hand_low p 9 (omega arith), hand_low a 10 (omega arith), h) one two
+  used_is gs w (Sent port) lt h g sums one two = one (instr.Out (emitted.port port) (src.Imm (Left w))) (omega arith, h)
 
   -- they are below 16
   abbrev AllLow : Option (ℕ × Used) → Type 0
@@ -230,34 +232,43 @@ module _ (W : Whole) (F : Frame) (P : List AsmItem → Type 0) (V : ℕ → Type
   indexed_low (Reg t) None c = tt
   indexed_low (Slot k) z c = tt
 
-  offset_low : (t : ℕ) (z : Where) (c : NodesT Where) → t < 16 → AllLow (offset_behind t z c)
-  offset_low t z (Do (ConstO s n) c) lt = when_low (is_in s 8) (offset_step t z n c) (step c)
+  offset_low : (t : ℕ) (u : Used) (c : NodesT Where) → Low u → AllLow (offset_step t u c)
+  offset_low t u (Do (StepO s a b) c) low = sum (beside a b) c
     where
-      load : (c : NodesT Where) → AllLow (offset_load t z n c)
-      load (Do (LoadO (Reg d) y) c) = when_low ((register d == t) && is_in y 8) (Some (4, Offset t z n)) lt
+      load : (c : NodesT Where) → AllLow (offset_load t u c)
+      load (Do (LoadO (Reg d) y) c) = when_low ((register d == t) && is_in y 8) (Some (4, u)) low
       load _ = tt
 
-      sum : (s : Where) (x : Option Where) (c : NodesT Where) → AllLow (offset_sum t z n s x c)
-      sum s (Some (Reg y)) c = when_low ((register y == t) && is_in s 8) (offset_load t z n c) (load c)
-      sum s (Some (Slot k)) c = tt
-      sum s None c = tt
+      sum : (x : Option Where) (c : NodesT Where) → AllLow (offset_sum t u s x c)
+      sum (Some (Reg y)) c = when_low ((register y == t) && is_in s 8) (offset_load t u c) (load c)
+      sum (Some (Slot k)) c = tt
+      sum None c = tt
+  offset_low t u _ low = tt
 
-      step : (c : NodesT Where) → AllLow (offset_step t z n c)
-      step (Do (StepO s a b) c) = sum s (beside a b) c
-      step _ = tt
-  offset_low t z _ lt = tt
+  number_low : (t : ℕ) (z : Where) (c : NodesT Where) → t < 16 → AllLow (offset_behind t z c)
+  number_low t z (Do (ConstO s n) c) lt = when_low (is_in s 8) (offset_step t (Offset t z n) c) (offset_low t (Offset t z n) c lt)
+  number_low t z _ lt = tt
 
   at_offset_low : (t : Where) (z : Option Where) (c : NodesT Where) → AllLow (offset t z c)
-  at_offset_low (Reg t) (Some z) c = offset_low (register t) z c (omega arith)
+  at_offset_low (Reg t) (Some z) c = number_low (register t) z c (omega arith)
   at_offset_low (Reg t) None c = tt
   at_offset_low (Slot k) z c = tt
+
+  global_low : (o : TwoOf) (t : ℕ) (z : Where) (c : NodesT Where) → t < 16 → AllLow (element_behind o t z c)
+  global_low o t z (Do (GlobalO s k) c) lt = when_low (is_in s 8) (offset_step t (Element o t z k) c) (offset_low t (Element o t z k) c lt)
+  global_low o t z _ lt = tt
+
+  element_low : (t : Where) (x : Option (TwoOf × Where)) (c : NodesT Where) → AllLow (element t x c)
+  element_low (Reg t) (Some (o, z)) c = when_low (adds o && not (register t == 8)) (element_behind o (register t) z c) (global_low o (register t) z c (omega arith))
+  element_low (Reg t) None c = tt
+  element_low (Slot k) x c = tt
 
   else_low : (x y : Option (ℕ × Used)) → AllLow x → AllLow y → AllLow (or_else x y)
   else_low None y h g = g
   else_low (Some x) y h g = h
 
   pub used_low : (c : NodesT Where) → AllLow (used_by c)
-  used_low (Do (TwoO o t p q) c) = computed_low t (operand o p q)
+  used_low (Do (TwoO o t p q) c) = else_low (element t (operand o p q) c) (spare.computed t (operand o p q)) (element_low t (operand o p q) c) (computed_low t (operand o p q))
   used_low (Do (StepO t p q) c) = go (is_in t 8)
     where
       go : (b : Bool) → AllLow (cond b (at_sum (beside p q) c) (or_else (indexed t (beside p q) c) (or_else (offset t (beside p q) c) (spare.computed t (operand IADD p q)))))
@@ -266,20 +277,20 @@ module _ (W : Whole) (F : Frame) (P : List AsmItem → Type 0) (V : ℕ → Type
   used_low (Do (OutO port p) c) = when_low (is_in p 8) (Some (1, Sent port)) tt
   used_low c = address_low 1 None c
 
-  with_known_is : (o : OpT Where) (s : Option (ℕ × ℕ)) (x : Option (ℕ × Used)) → AllLow x → Puts V s → P (op_items W F o) → One → Behind → P (one_or_more W F o (with_known F s x))
+  with_known_is : (o : OpT Where) (s : Option (ℕ × ℕ)) (x : Option (ℕ × Used)) → AllLow x → Puts V s → P (op_items W F o) → One → Behind → P (one_or_more W F o (with_known W.globals F s x))
   with_known_is o None x low fit h one two = h
   with_known_is o (Some (r, w)) None low fit h one two = h
-  with_known_is o (Some (r, w)) (Some (k, u)) low fit h one two = used_is w u low fit.1 fit.2 fit.3 one two
+  with_known_is o (Some (r, w)) (Some (k, u)) low fit h one two = used_is W.globals w u low fit.1 fit.2 fit.3 one two
 
-  more_is : (o : OpT Where) (s : Option (ℕ × ℕ)) (p : OpT Where) (c : NodesT Where) → Puts V s → P (op_items W F o) → One → Behind → P (one_or_more W F o (with_more F s p c))
+  more_is : (o : OpT Where) (s : Option (ℕ × ℕ)) (p : OpT Where) (c : NodesT Where) → Puts V s → P (op_items W F o) → One → Behind → P (one_or_more W F o (with_more W.globals F s p c))
   more_is o s p c fit h one two = go (is_spared F s)
     where
-      go : (b : Bool) → P (one_or_more W F o (cond b (with_known F s (used_by (Do p c))) (with_word F s p c)))
+      go : (b : Bool) → P (one_or_more W F o (cond b (with_known W.globals F s (used_by (Do p c))) (with_word F s p c)))
       go true = with_known_is o s (used_by (Do p c)) (used_low (Do p c)) fit h one two
       go false = word_is o s p c fit h one two
 
   -- what holds of the items of an operation, and of each such instruction, alone and behind one that fetches or adds a word, holds of what is done
-  pub one_or_more_is : (o : OpT Where) (c : NodesT Where) → ((t : Where) (n : ℕ) → o ≡ ConstO t n → V n × V (sub 0 n) × ((m : ℕ) → V (add n m))) → ((t : Where) (k : ℕ) → o ≡ GlobalO t k → V (get_or W.globals k 0) × V (sub 0 (get_or W.globals k 0)) × ((m : ℕ) → V (add (get_or W.globals k 0) m))) → P (op_items W F o) → One → Behind → P (one_or_more W F o (in_one W F o c))
+  pub one_or_more_is : (o : OpT Where) (c : NodesT Where) → ((t : Where) (n : ℕ) → o ≡ ConstO t n → V n × V (sub 0 n) × ((x y : ℕ) → V (add x y))) → ((t : Where) (k : ℕ) → o ≡ GlobalO t k → V (get_or W.globals k 0) × V (sub 0 (get_or W.globals k 0)) × ((x y : ℕ) → V (add x y))) → P (op_items W F o) → One → Behind → P (one_or_more W F o (in_one W F o c))
   unfolding in_one
   one_or_more_is o (Do p c) f g h one two = more_is o (word_put W o) p c (put_is V W o f g) h one two
   one_or_more_is o _ f g h one two = h
@@ -288,7 +299,7 @@ module _ (W : Whole) (F : Frame) (P : List AsmItem → Type 0) (V : ℕ → Type
   abbrev MadeFits : OpT Where → Option (ℕ × Made) → Type 0
   MadeFits o None = Unit {0}
   MadeFits o (Some (k, Both u a b)) = (t : Where) × (o ≡ TwoO u t a b)
-  MadeFits o (Some (k, Known u a w)) = V w × V (sub 0 w) × ((n : ℕ) → V (add w n))
+  MadeFits o (Some (k, Known u a w)) = V w × V (sub 0 w) × ((x y : ℕ) → V (add x y))
 
   abbrev OfBoth : OpT Where → Type 0
   OfBoth o = (u : TwoOf) (t a b : Where) → o ≡ TwoO u t a b → P (made_items F (Both u a b))
@@ -320,10 +331,10 @@ module _ (W : Whole) (F : Frame) (P : List AsmItem → Type 0) (V : ℕ → Type
   made_is : (o : OpT Where) (x : Option (ℕ × Made)) (other : List AsmItem) → MadeFits o x → One → Behind → OfBoth o → P other → P (made_or F x other)
   made_is o None other fit one two both h = h
   made_is o (Some (k, Both u a b)) other fit one two both h = both u fit.0 a b fit.1
-  made_is o (Some (k, Known u a w)) other fit one two both h = used_is w (Computed u 9 a) (omega arith) fit.0 fit.1 fit.2 one two
+  made_is o (Some (k, Known u a w)) other fit one two both h = known_is u 9 a w (added u w) (omega arith) fit.0 (added_is u w fit.0 fit.1) one two
 
   -- and of all that comes next
-  pub next_is : (o : OpT Where) (c : NodesT Where) → ((t : Where) (n : ℕ) → o ≡ ConstO t n → V n × V (sub 0 n) × ((m : ℕ) → V (add n m))) → ((t : Where) (k : ℕ) → o ≡ GlobalO t k → V (get_or W.globals k 0) × V (sub 0 (get_or W.globals k 0)) × ((m : ℕ) → V (add (get_or W.globals k 0) m))) → One → Behind → OfBoth o → P (group_items W F o c) → P (next_items W F o c)
+  pub next_is : (o : OpT Where) (c : NodesT Where) → ((t : Where) (n : ℕ) → o ≡ ConstO t n → V n × V (sub 0 n) × ((x y : ℕ) → V (add x y))) → ((t : Where) (k : ℕ) → o ≡ GlobalO t k → V (get_or W.globals k 0) × V (sub 0 (get_or W.globals k 0)) × ((x y : ℕ) → V (add x y))) → One → Behind → OfBoth o → P (group_items W F o c) → P (next_items W F o c)
   unfolding made_of
   next_is o c f g one two both h =
       made_is o (first_made (made_both o (given_first c)) (made_with F (word_put W o) c)) (group_items W F o c)

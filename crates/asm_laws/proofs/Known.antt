@@ -220,7 +220,7 @@ module _ (x : CodeT Where) (W : Whole) (Q : List ℕ → Type 0) (of_function : 
   taking_uses _ h = absurd h
 
   one_uses : (m : ℕ) (F : Frame) (o : OpT Where) (c : NodesT Where) → IsOp x m o → Uses Q (one_or_more W F o (in_one W F o c))
-  one_uses m F o c ok = one_or_more_is W F (Uses Q) (λ v. Unit {0}) o c (λ t n e. (tt, tt, λ m. tt)) (λ t k e. (tt, tt, λ m. tt)) (op_uses m F o ok) taking_uses (λ p r i lt h. (fetch_uses F p r, taking_uses i h), λ r q i lr lq h. (tt, taking_uses i h))
+  one_uses m F o c ok = one_or_more_is W F (Uses Q) (λ v. Unit {0}) o c (λ t n e. (tt, tt, λ x y. tt)) (λ t k e. (tt, tt, λ x y. tt)) (op_uses m F o ok) taking_uses (λ p r i lt h. (fetch_uses F p r, taking_uses i h), λ r q i lr lq h. (tt, taking_uses i h))
 
   puts_uses : (c : NodesT Where) (k : ℕ) → Uses Q (puts_items W c k)
   puts_uses (Do o c) (suc k) = uses_append Q (put_item (word_put W o)) (puts_items W c k) (put (word_put W o)) (puts_uses c k)
@@ -243,7 +243,7 @@ module _ (x : CodeT Where) (W : Whole) (Q : List ℕ → Type 0) (of_function : 
 
   next_uses : (m : ℕ) (F : Frame) (o : OpT Where) (c : NodesT Where) → IsOp x m o → Uses Q (next_items W F o c)
   next_uses m F o c ok =
-      next_is W F (Uses Q) (λ v. Unit {0}) o c (λ t n e. (tt, tt, λ m. tt)) (λ t k e. (tt, tt, λ m. tt)) taking_uses (λ p r i lt h. (fetch_uses F p r, taking_uses i h), λ r q i lr lq h. (tt, taking_uses i h))
+      next_is W F (Uses Q) (λ v. Unit {0}) o c (λ t n e. (tt, tt, λ x y. tt)) (λ t k e. (tt, tt, λ x y. tt)) taking_uses (λ p r i lt h. (fetch_uses F p r, taking_uses i h), λ r q i lr lq h. (tt, taking_uses i h))
       (λ u t a b e. (fetch_uses F a 9, brought_uses F b 10 _ (tt, tt))) (group_uses m F o c ok)
 
   call_uses : (F : Frame) (t : Option Where) (g : ℕ) (args : List Where) → g < length x.functions → Uses Q (call_items W F t g args)

@@ -1,5 +1,5 @@
 -- What is known before a loop that copies words.
-use Rattle.std.proofs.Common.{◌≡◌, ℕ, zero, suc, Bool, true, false, cond, Option, Some, None, refl, sym, ap, ◌∙◌, subst}
+use Rattle.std.proofs.Common.{◌≡◌, ℕ, zero, suc, Bool, true, false, cond, List, Option, Some, None, refl, sym, ap, ◌∙◌, subst}
 use Rattle.std.specs.Prelude.{◌==◌, ◌&&◌, not}
 use Rattle.std.proofs.lemmas.Bool.{eqb-true}
 use Rattle.v32_isa.specs.declared.instruction.Two.{Two as TwoOf}
@@ -13,10 +13,10 @@ use Rattle.mid_code.specs.Code.{NodesT, Stop, Do, Call, Choose, Block, Loop, Lea
 use Rattle.mid_code.specs.Meaning.{Did, On, Ends}
 use Rattle.mid_code.specs.States.{State}
 use Rattle.asm_laws.specs.declared.used.Used.{Used}
-use Rattle.asm_laws.specs.declared.used.Used.TheVariants.{Indexed}
+use Rattle.asm_laws.specs.declared.used.Used.TheVariants.{Indexed, Offset, Element}
 use Rattle.asm_laws.specs.declared.copying.Copying.{Copying}
 use Rattle.asm_laws.specs.Pieces.{register, is_in, turned, other_word, loads_there}
-use Rattle.asm_laws.specs.Spare.{beside, operand, in_slots, at_address, at_sum, index, index_behind, indexed, offset_load, offset_sum, offset_step, offset_behind, offset, or_else, used_by}
+use Rattle.asm_laws.specs.Spare.{beside, operand, in_slots, at_address, at_sum, index, index_behind, indexed, offset_load, offset_sum, offset_step, offset_behind, offset, adds, element_behind, element, or_else, used_by}
 use Rattle.asm_laws.specs.Spare as groups
 use Rattle.asm_laws.specs.Copies.{copy_of, last_put, is_count, is_one, lead}
 use Rattle.asm_laws.specs.Operations.{Frame, Whole, word_put, summed, first_place, unturned, copied, copied_address, with_copy, with_sum, with_word, is_spared, with_known, in_one, more_of, led_more}
@@ -85,22 +85,31 @@ indexed_ops (Reg t) (Some (Slot k)) p c = tt
 indexed_ops (Reg t) None p c = tt
 indexed_ops (Slot k) z p c = tt
 
-load_ops : (t : ℕ) (z : Where) (n : ℕ) (p q r : OpT Where) (c : NodesT Where) → AllOps (offset_load t z n c) (Do p (Do q (Do r c)))
-load_ops t z n p q r (Do (LoadO (Reg d) y) c) = when_ops ((register d == t) && is_in y 8) _ (Do p (Do q (Do r (Do (LoadO (Reg d) y) c)))) tt
-load_ops t z n p q r _ = tt
+load_ops : (t : ℕ) (u : Used) (p q r : OpT Where) (c : NodesT Where) → AllOps (offset_load t u c) (Do p (Do q (Do r c)))
+load_ops t u p q r (Do (LoadO (Reg d) y) c) = when_ops ((register d == t) && is_in y 8) _ (Do p (Do q (Do r (Do (LoadO (Reg d) y) c)))) tt
+load_ops t u p q r _ = tt
 
-step_ops : (t : ℕ) (z : Where) (n : ℕ) (p q : OpT Where) (c : NodesT Where) → AllOps (offset_step t z n c) (Do p (Do q c))
-step_ops t z n p q (Do (StepO s a b) c) = go (beside a b)
+step_ops : (t : ℕ) (u : Used) (p q : OpT Where) (c : NodesT Where) → AllOps (offset_step t u c) (Do p (Do q c))
+step_ops t u p q (Do (StepO s a b) c) = go (beside a b)
   where
-    go : (x : Option Where) → AllOps (offset_sum t z n s x c) (Do p (Do q (Do (StepO s a b) c)))
-    go (Some (Reg y)) = when_ops ((register y == t) && is_in s 8) _ (Do p (Do q (Do (StepO s a b) c))) (load_ops t z n p q (StepO s a b) c)
+    go : (x : Option Where) → AllOps (offset_sum t u s x c) (Do p (Do q (Do (StepO s a b) c)))
+    go (Some (Reg y)) = when_ops ((register y == t) && is_in s 8) _ (Do p (Do q (Do (StepO s a b) c))) (load_ops t u p q (StepO s a b) c)
     go (Some (Slot k)) = tt
     go None = tt
-step_ops t z n p q _ = tt
+step_ops t u p q _ = tt
 
 behind_ops : (t : ℕ) (z : Where) (p : OpT Where) (c : NodesT Where) → AllOps (offset_behind t z c) (Do p c)
-behind_ops t z p (Do (ConstO s n) c) = when_ops (is_in s 8) _ (Do p (Do (ConstO s n) c)) (step_ops t z n p (ConstO s n) c)
+behind_ops t z p (Do (ConstO s n) c) = when_ops (is_in s 8) _ (Do p (Do (ConstO s n) c)) (step_ops t (Offset t z n) p (ConstO s n) c)
 behind_ops t z p _ = tt
+
+global_ops : (o : TwoOf) (t : ℕ) (z : Where) (p : OpT Where) (c : NodesT Where) → AllOps (element_behind o t z c) (Do p c)
+global_ops o t z p (Do (GlobalO s k) c) = when_ops (is_in s 8) _ (Do p (Do (GlobalO s k) c)) (step_ops t (Element o t z k) p (GlobalO s k) c)
+global_ops o t z p _ = tt
+
+element_ops : (t : Where) (x : Option (TwoOf × Where)) (p : OpT Where) (c : NodesT Where) → AllOps (element t x c) (Do p c)
+element_ops (Reg t) (Some (o, z)) p c = when_ops (adds o && not (register t == 8)) (element_behind o (register t) z c) (Do p c) (global_ops o (register t) z p c)
+element_ops (Reg t) None p c = tt
+element_ops (Slot k) x p c = tt
 
 offset_ops : (t : Where) (z : Option Where) (p : OpT Where) (c : NodesT Where) → AllOps (offset t z c) (Do p c)
 offset_ops (Reg t) (Some z) p c = behind_ops (register t) z p c
@@ -112,7 +121,8 @@ else_ops None y c h g = g
 else_ops (Some x) y c h g = h
 
 used_ops : (c : NodesT Where) → AllOps (used_by c) c
-used_ops (Do (TwoO o t p q) c) = computed_ops t (operand o p q) (TwoO o t p q) c
+used_ops (Do (TwoO o t p q) c) =
+    else_ops (element t (operand o p q) c) (groups.computed t (operand o p q)) (Do (TwoO o t p q) c) (element_ops t (operand o p q) (TwoO o t p q) c) (computed_ops t (operand o p q) (TwoO o t p q) c)
 used_ops (Do (StepO t p q) c) = go (is_in t 8)
   where
     go : (b : Bool) → AllOps (cond b (at_sum (beside p q) c) (or_else (indexed t (beside p q) c) (or_else (offset t (beside p q) c) (groups.computed t (operand IADD p q))))) (Do (StepO t p q) c)
@@ -122,10 +132,10 @@ used_ops (Do (StepO t p q) c) = go (is_in t 8)
 used_ops (Do (OutO port p) c) = when_ops (is_in p 8) _ (Do (OutO port p) c) tt
 used_ops c = one_ops None c
 
-known_ops : (F : Frame) (put : Option (ℕ × ℕ)) (x : Option (ℕ × Used)) (c : NodesT Where) → AllOps x c → AreOps (more_of (with_known F put x)) c
-known_ops F None x c h = tt
-known_ops F (Some (r, w)) None c h = tt
-known_ops F (Some (r, w)) (Some (k, u)) c h = h
+known_ops : (gs : List ℕ) (F : Frame) (put : Option (ℕ × ℕ)) (x : Option (ℕ × Used)) (c : NodesT Where) → AllOps x c → AreOps (more_of (with_known gs F put x)) c
+known_ops gs F None x c h = tt
+known_ops gs F (Some (r, w)) None c h = tt
+known_ops gs F (Some (r, w)) (Some (k, u)) c h = h
 
 copy_ops : (F : Frame) (r w : ℕ) (p : OpT Where) (c : NodesT Where) → AreOps (more_of (with_copy F r w p c)) (Do p c)
 copy_ops F r w (TwoO u t a b) c = go (unturned (turned u) (first_place r t a b))
@@ -160,8 +170,8 @@ pub one_is : (W : Whole) (F : Frame) (o : OpT Where) (c : NodesT Where) → AreO
 unfolding in_one
 one_is W F o (Do p c) = go (is_spared F (word_put W o))
   where
-    go : (b : Bool) → AreOps (more_of (cond b (with_known F (word_put W o) (used_by (Do p c))) (with_word F (word_put W o) p c))) (Do p c)
-    go true = known_ops F (word_put W o) (used_by (Do p c)) (Do p c) (used_ops (Do p c))
+    go : (b : Bool) → AreOps (more_of (cond b (with_known W.globals F (word_put W o) (used_by (Do p c))) (with_word F (word_put W o) p c))) (Do p c)
+    go true = known_ops W.globals F (word_put W o) (used_by (Do p c)) (Do p c) (used_ops (Do p c))
     go false = word_ops F (word_put W o) p c
 one_is W F o _ = tt
 

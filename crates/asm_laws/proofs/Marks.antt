@@ -196,7 +196,7 @@ module _ (W : Whole) (differ : Differ W.names) where
   op_bare F HaltO = tt
 
   one_bare : (F : Frame) (o : OpT Where) (c : NodesT Where) → Bare (one_or_more W F o (in_one W F o c))
-  one_bare F o c = one_or_more_is W F (λ xs. Bare xs) (λ v. Unit {0}) o c (λ t n e. (tt, tt, λ m. tt)) (λ t k e. (tt, tt, λ m. tt)) (op_bare F o) (λ i h. tt) (λ p r i lt h. tt, λ r q i lr lq h. tt)
+  one_bare F o c = one_or_more_is W F (λ xs. Bare xs) (λ v. Unit {0}) o c (λ t n e. (tt, tt, λ x y. tt)) (λ t k e. (tt, tt, λ x y. tt)) (op_bare F o) (λ i h. tt) (λ p r i lt h. tt, λ r q i lr lq h. tt)
 
   puts_bare : (c : NodesT Where) (k : ℕ) → Bare (puts_items W c k)
   puts_bare (Do o c) (suc k) = names_append (λ m. ⊥) (put_item (word_put W o)) (puts_items W c k) (put (word_put W o)) (puts_bare c k)
@@ -218,7 +218,7 @@ module _ (W : Whole) (differ : Differ W.names) where
   group_bare F o c = group_is W F (λ xs. Bare xs) o c (one_bare F o c) (λ k e. puts_bare (Do o c) k)
 
   next_bare : (F : Frame) (o : OpT Where) (c : NodesT Where) → Bare (next_items W F o c)
-  next_bare F o c = next_is W F (λ xs. Bare xs) (λ v. Unit {0}) o c (λ t n e. (tt, tt, λ m. tt)) (λ t k e. (tt, tt, λ m. tt)) (λ i h. tt) (λ p r i lt h. tt, λ r q i lr lq h. tt) (λ u t a b e. brought_bare F b 10 _ tt) (group_bare F o c)
+  next_bare F o c = next_is W F (λ xs. Bare xs) (λ v. Unit {0}) o c (λ t n e. (tt, tt, λ x y. tt)) (λ t k e. (tt, tt, λ x y. tt)) (λ i h. tt) (λ p r i lt h. tt, λ r q i lr lq h. tt) (λ u t a b e. brought_bare F b 10 _ tt) (group_bare F o c)
 
   call_bare : (F : Frame) (t : Option Where) (g : ℕ) (args : List Where) → Bare (call_items W F t g args)
   call_bare F t g args = names_append (λ m. ⊥) (args_items F (W.frames g) (W.params g) args) _ (args_bare F (W.frames g) (W.params g) args) (some_bare F t)

@@ -2,13 +2,13 @@
 use Rattle.std.proofs.Common.{◌≡◌, ℕ, zero, suc, ◌+◌, ◌<◌, ◌≤◌, ◌⊎◌, inl, inr, Bool, true, false, cond, List, [], ◌∷◌, ◌++◌, length, Option, Some, None, refl, sym, ap, ◌∙◌, subst, arith, append-nil}
 use Rattle.std.specs.Prelude.{if◌then◌else◌, ◌==◌, ◌&&◌, not, get_or, option_map}
 use Rattle.either.specs.declared.Either.TheVariants.{Left}
-use Rattle.kit_base.specs.Word.{add}
+use Rattle.kit_base.specs.Word.{add, sub}
 use Rattle.v32_isa.specs.declared.instruction.Go.TheVariants.{JMP}
 use Rattle.v32_isa.specs.declared.instruction.Branch.TheVariants.{JT, JF}
 use Rattle.v32_isa.specs.declared.instruction.Src.TheVariants as src
 use Rattle.v32_isa.specs.declared.instruction.Mov.TheVariants.{RegAtOff}
 use Rattle.v32_isa.specs.declared.instruction.Instr.{Instr}
-use Rattle.v32_isa.specs.declared.instruction.Two.TheVariants.{IADD}
+use Rattle.v32_isa.specs.declared.instruction.Two.TheVariants.{IADD, ISUB}
 use Rattle.v32_isa.specs.declared.instruction.Instr.TheVariants as instr
 use Rattle.v32_isa.specs.declared.stepped.Stepped.TheVariants as stepped
 use Rattle.v32_isa.specs.State.{register_of, going_to, written}
@@ -36,10 +36,10 @@ use Rattle.mid_code.specs.declared.placed.Where.TheVariants.{Reg, Slot}
 use Rattle.mid_code.specs.Code.{NodesT, Stop, Do, Call, Choose, Block, Loop, Leave, Again, Return, OpT, ConstO, NullO, MoveO, OneO, TwoO, GlobalO, LocalO, LiteralO, CardO, StepO, ApartO, PtrTestO, LoadO, StoreO, FreshO, EndO, InO, OutO, WaitO, HaltO}
 use Rattle.mid_code.specs.Meaning.{Did, On, Ends, node_weight}
 use Rattle.mid_code.specs.States.{State, spent, op_weight, word_tested, registers_and_slots, acted}
-use Rattle.asm_laws.specs.Operations.{Frame, fetch, hand, word_put, summed, first_place, unturned, copied, copied_address, with_copy, with_sum, with_word, using_it, is_spared, with_known, with_more, in_one, before_it, one_or_more, more_of, op_items, puts_items, led_items, led_more}
+use Rattle.asm_laws.specs.Operations.{Frame, fetch, hand, word_put, summed, first_place, unturned, copied, copied_address, with_copy, with_sum, with_word, addend, using_it, is_spared, with_known, with_more, in_one, before_it, one_or_more, more_of, op_items, puts_items, led_items, led_more}
 use Rattle.asm_laws.specs.declared.used.Used.{Used}
-use Rattle.asm_laws.specs.declared.used.Used.TheVariants.{Computed, Loaded, Indexed, Offset, Stored, Sent}
-use Rattle.asm_laws.specs.Spare.{beside, operand, in_slots, at_address, at_sum, index, index_behind, indexed, offset_load, offset_sum, offset_step, offset_behind, offset, or_else, used_by, puts, Stays, Sparing}
+use Rattle.asm_laws.specs.declared.used.Used.TheVariants.{Computed, Loaded, Indexed, Offset, Element, Stored, Sent}
+use Rattle.asm_laws.specs.Spare.{beside, operand, in_slots, at_address, at_sum, index, index_behind, indexed, offset_load, offset_sum, offset_step, offset_behind, offset, adds, element_behind, element, or_else, used_by, puts, Stays, Sparing}
 use Rattle.asm_laws.specs.Spare as groups
 use Rattle.asm_laws.specs.Pieces.{register, is_in, turned, other_word, loads_there}
 use Rattle.asm_laws.specs.Placing.{Line, Jumps, Passes}
@@ -58,7 +58,7 @@ use Rattle.asm_laws.proofs.OperationsStep.{op_follows, sum_turned, TurnsTo, turn
 use Rattle.asm_laws.proofs.Lists.{below_or_not}
 use Rattle.asm_laws.proofs.Alongside.{Alongside, word_alike, written_alike, computed_alike, loaded_alike, saved_alike, does_alongside}
 use Rattle.asm_laws.proofs.Spared.{FrontStays, other_stays, uses_stay, old_stays, spared_is}
-use Rattle.asm_laws.proofs.UsedStep.{address_with, computed_follows, loaded_follows, before_load, indexed_follows, stored_follows, sent_follows}
+use Rattle.asm_laws.proofs.UsedStep.{address_with, sum_made, computed_follows, loaded_follows, before_load, indexed_follows, stored_follows, sent_follows}
 use Rattle.asm_laws.proofs.InOneStep.{both, twice, Sums, sums, lea_follows, load_follows, Copies, copies, Stepped, step_is, two_copied, step_copied, load_copied}
 use Rattle.asm_laws.specs.Holds.{Setting, sizes, Named, Fits, Ctx, Stands}
 use Rattle.asm_laws.specs.Acting.{Holds, DoesAs, Fitting, FrontFits}
@@ -381,7 +381,7 @@ module _ (S : Setting) (fits : Fits S) where
         good : Good (Of κ) x
         so : (ys : List ℕ) → does C S.address S.whole (Of κ) u ys (with_reg 8 w a) ≡ computed (Of κ) (Reg t) (two_of i (word_of (Of κ) x b) w) ys (with_reg 8 w a)
 
-      computed_done : (u : OpT Where) (c : NodesT Where) (i : TwoOf) (t : ℕ) (x : Where) → op_weight u ≡ 8 → (Fitting S κ.fn u → Makes u i t x) → Done o (Do u c) (Some (1, (using_it (Of κ) w (Computed i (register t) x)).0, (using_it (Of κ) w (Computed i (register t) x)).1))
+      computed_done : (u : OpT Where) (c : NodesT Where) (i : TwoOf) (t : ℕ) (x : Where) → op_weight u ≡ 8 → (Fitting S κ.fn u → Makes u i t x) → Done o (Do u c) (Some (1, (using_it S.whole.globals (Of κ) w (Computed i (register t) x)).0, (using_it S.whole.globals (Of κ) w (Computed i (register t) x)).1))
       computed_done u c i t x heavy makes ff st =
           let is = makes ff.0 in
           put_done o 8 w (front_acts (lang S) (Do u c) 1) fit puts (λ s1 h1. alone κ m (begin (holder S) s1) p c ((lang S).act u s1)
@@ -389,37 +389,53 @@ module _ (S : Setting) (fits : Fits S) where
           last_by κ p u s1 m (with_reg 8 w a) h.registers (computed (Of κ) (Reg t) (two_of i (word_of (Of κ) x b) w) ys b) (spared_like w) h1 ff.0
           (subst (λ z. Alongside (Number κ) z (computed (Of κ) (Reg t) (two_of i (word_of (Of κ) x b) w) ys b)) (sym (is.so ys))
           (computed_alike C S.address S.whole (Of κ) (Number κ) (with_reg 8 w a) h.registers (spared_like w) (Reg t) (two_of i (word_of (Of κ) x b) w) (two_of i (word_of (Of κ) x b) w) ys refl))
-          (subst (λ n. Follows C n m ys p b (computed (Of κ) (Reg t) (two_of i (word_of (Of κ) x b) w) ys b)) (sym heavy) (computed_follows C S.address (Of κ) b roomy t i x w m ys pc p is.low is.good h.held e st))))
+          (subst (λ n. Follows C n m ys p b (computed (Of κ) (Reg t) (two_of i (word_of (Of κ) x b) w) ys b)) (sym heavy) (computed_follows C S.address (Of κ) b roomy S.whole.globals t i x w m ys pc p is.low is.good h.held e st))))
+
+      abbrev Operates : OpT Where → ℕ → Option (TwoOf × Where) → Type 0
+      Operates u t None = Unit {0}
+      Operates u t (Some (j, z)) = Fitting S κ.fn u → Named S κ.fn z × Makes u j t z
 
       -- an operator, where just one of its places is register 8
       module _ (u : OpT Where) (c : NodesT Where) (i : TwoOf) (x y : Where) (heavy : op_weight u ≡ 8) where
-        made_done : (t : ℕ) (j : TwoOf) (z : Where) → (Fitting S κ.fn u → Makes u j t z) → Done o (Do u c) (with_known (Of κ) (Some (8, w)) (groups.computed (Reg t) (Some (j, z))))
+        made_done : (t : ℕ) (j : TwoOf) (z : Where) → (Fitting S κ.fn u → Makes u j t z) → Done o (Do u c) (with_known S.whole.globals (Of κ) (Some (8, w)) (groups.computed (Reg t) (Some (j, z))))
         made_done t j z makes = go (register t == 8)
           where
-            go : (f : Bool) → Done o (Do u c) (with_known (Of κ) (Some (8, w)) (cond f None (Some (1, Computed j (register t) z))))
+            go : (f : Bool) → Done o (Do u c) (with_known S.whole.globals (Of κ) (Some (8, w)) (cond f None (Some (1, Computed j (register t) z))))
             go true = one_done o (Do u c) fit stays
             go false = computed_done u c j t z heavy makes
 
-        operand_done : (t : Where) → (Fitting S κ.fn u → Named S κ.fn t × Named S κ.fn x × Named S κ.fn y) → ((ys : List ℕ) (d : Addr) → does C S.address S.whole (Of κ) u ys d ≡ computed (Of κ) t (two_of i (word_of (Of κ) x d) (word_of (Of κ) y d)) ys d) →
-            Done o (Do u c) (with_known (Of κ) (Some (8, w)) (groups.computed t (operand i x y)))
-        operand_done (Slot k) names is = one_done o (Do u c) fit stays
-        operand_done (Reg t) names is = go (is_in x 8) refl (is_in y 8) refl (turned i) (turns i)
+        operates : (t : ℕ) → (Fitting S κ.fn u → Named S κ.fn (Reg t) × Named S κ.fn x × Named S κ.fn y) → ((ys : List ℕ) (d : Addr) → does C S.address S.whole (Of κ) u ys d ≡ computed (Of κ) (Reg t) (two_of i (word_of (Of κ) x d) (word_of (Of κ) y d)) ys d) → Operates u t (operand i x y)
+        operates t names is = go (is_in x 8) refl (is_in y 8) refl (turned i) (turns i)
           where
-            go : (f : Bool) → is_in x 8 ≡ f → (g : Bool) → is_in y 8 ≡ g → (z : Option TwoOf) → TurnsTo i z →
-                Done o (Do u c) (with_known (Of κ) (Some (8, w)) (groups.computed (Reg t) (cond f (cond g None (option_map (λ j. (j, y)) z)) (cond g (Some (i, x)) None))))
-            go true ex true ey z turns = one_done o (Do u c) fit stays
-            go false ex false ey z turns = one_done o (Do u c) fit stays
-            go false ex true ey z turns = made_done t i x (λ ff. let n = names ff in record {
-              low = n.0;
-              good = good S fits κ x n.1;
-              so = λ ys. is ys (with_reg 8 w a) ∙ (λ f. computed (Of κ) (Reg t) (two_of i (elsewhere x n.1 ex f) (there y w a n.2 ey f)) ys (with_reg 8 w a));
-            })
-            go true ex false ey None turns = one_done o (Do u c) fit stays
-            go true ex false ey (Some j) turns = made_done t j y (λ ff. let n = names ff in record {
-              low = n.0;
-              good = good S fits κ y n.2;
-              so = λ ys. is ys (with_reg 8 w a) ∙ (λ f. computed (Of κ) (Reg t) (two_of i (there x w a n.1 ex f) (elsewhere y n.2 ey f)) ys (with_reg 8 w a)) ∙ ap (λ z. computed (Of κ) (Reg t) z ys (with_reg 8 w a)) (sym (turns w (word_of (Of κ) y b)));
-            })
+            go : (f : Bool) → is_in x 8 ≡ f → (g : Bool) → is_in y 8 ≡ g → (z : Option TwoOf) → TurnsTo i z → Operates u t (cond f (cond g None (option_map (λ j. (j, y)) z)) (cond g (Some (i, x)) None))
+            go true ex true ey z turns = tt
+            go false ex false ey z turns = tt
+            go false ex true ey z turns = λ ff. let n = names ff in (
+              n.1,
+              record {
+                low = n.0;
+                good = good S fits κ x n.1;
+                so = λ ys. is ys (with_reg 8 w a) ∙ (λ f. computed (Of κ) (Reg t) (two_of i (elsewhere x n.1 ex f) (there y w a n.2 ey f)) ys (with_reg 8 w a));
+              },
+            )
+            go true ex false ey None turns = tt
+            go true ex false ey (Some j) turns = λ ff. let n = names ff in (
+              n.2,
+              record {
+                low = n.0;
+                good = good S fits κ y n.2;
+                so = λ ys. is ys (with_reg 8 w a) ∙ (λ f. computed (Of κ) (Reg t) (two_of i (there x w a n.1 ex f) (elsewhere y n.2 ey f)) ys (with_reg 8 w a)) ∙ ap (λ z. computed (Of κ) (Reg t) z ys (with_reg 8 w a)) (sym (turns w (word_of (Of κ) y b)));
+              },
+            )
+
+        operand_done : (t : Where) → (Fitting S κ.fn u → Named S κ.fn t × Named S κ.fn x × Named S κ.fn y) → ((ys : List ℕ) (d : Addr) → does C S.address S.whole (Of κ) u ys d ≡ computed (Of κ) t (two_of i (word_of (Of κ) x d) (word_of (Of κ) y d)) ys d) →
+            Done o (Do u c) (with_known S.whole.globals (Of κ) (Some (8, w)) (groups.computed t (operand i x y)))
+        operand_done (Slot k) names is = one_done o (Do u c) fit stays
+        operand_done (Reg t) names is = go (operand i x y) (operates t names is)
+          where
+            go : (k : Option (TwoOf × Where)) → Operates u t k → Done o (Do u c) (with_known S.whole.globals (Of κ) (Some (8, w)) (groups.computed (Reg t) k))
+            go None m = one_done o (Do u c) fit stays
+            go (Some (j, z)) m = made_done t j z (λ ff. (m ff).1)
 
       -- a load or a store as the last operation, at an address in register 8
       module _ (x : Option Where) (inner : ℕ → ℕ) (like : AreLike κ h.registers (having inner h.words)) (at : (q : Where) → Named S κ.fn q → is_in q 8 ≡ true → address_with (Of κ) x w b ≡ word_of (Of κ) q (having inner h.words)) where
@@ -431,7 +447,7 @@ module _ (S : Setting) (fits : Fits S) where
 
         -- what is done by an instruction that uses the known word
         abbrev Finish : NodesT Where → Used → Type 0
-        Finish c u = (s1 : State Where) → Holds S κ s1 (having inner h.words) → AllOf (Good (Of κ)) (maybe x) → FrontFits S κ.fn c 1 → Stand C.words S.address pc (before_it (using_it (Of κ) w u).0 ++ item.Op (using_it (Of κ) w u).1 ∷ []) p → DidSim (holder S) κ m (begin (holder S) s1) p (front_acts (lang S) c 1 s1)
+        Finish c u = (s1 : State Where) → Holds S κ s1 (having inner h.words) → AllOf (Good (Of κ)) (maybe x) → FrontFits S κ.fn c 1 → Stand C.words S.address pc (before_it (using_it S.whole.globals (Of κ) w u).0 ++ item.Op (using_it S.whole.globals (Of κ) w u).1 ∷ []) p → DidSim (holder S) κ m (begin (holder S) s1) p (front_acts (lang S) c 1 s1)
 
         loaded_last : (t : ℕ) (q : Where) (c : NodesT Where) → is_in q 8 ≡ true → Finish (Do (LoadO (Reg t) q) c) (Loaded (register t) x)
         unfolding does
@@ -440,7 +456,7 @@ module _ (S : Setting) (fits : Fits S) where
             alone κ m (begin (holder S) s1) p c ((lang S).act (LoadO (Reg t) q) s1)
             (last_by κ p (LoadO (Reg t) q) s1 m z h.registers (loaded (readable C n) (Of κ) (Reg t) (h.words.memory n) ys b) like h1 ff.0
             (loaded_alike C S.address S.whole (Of κ) (Number κ) z h.registers like (Reg t) (word_of (Of κ) q z) n ys (at q ff.0.1 is))
-            (loaded_follows C S.address (Of κ) b roomy t x w m ys pc p ff.0.0 good h.held e st))
+            (loaded_follows C S.address (Of κ) b roomy S.whole.globals t x w m ys pc p ff.0.0 good h.held e st))
 
         stored_last : (q y : Where) (c : NodesT Where) → is_in q 8 ≡ true → is_in y 8 ≡ false → in_slots x y ≡ false → Finish (Do (StoreO q y) c) (Stored x y)
         unfolding does
@@ -450,7 +466,7 @@ module _ (S : Setting) (fits : Fits S) where
             (last_by κ p (StoreO q y) s1 m z h.registers (saved (writable C n) n (word_of (Of κ) y b) ys b) like h1 ff.0
             (saved_alike C S.address S.whole (Of κ) (Number κ) z h.registers like (word_of (Of κ) q z) n (word_of (Of κ) y z) (word_of (Of κ) y b) ys (at q ff.0.0 is)
             (word_alike C S.address S.whole (Of κ) (Number κ) z h.registers like y (other_stays S κ.fn (Number κ) y eight ff.0.1 other)))
-            (stored_follows C S.address (Of κ) b roomy x y w m ys pc p fine (good S fits κ y ff.0.1) apart h.held e st))
+            (stored_follows C S.address (Of κ) b roomy S.whole.globals x y w m ys pc p fine (good S fits κ y ff.0.1) apart h.held e st))
 
         address_case : (k : ℕ) (c : NodesT Where) (Q : Option (ℕ × Used) → Type 0) → Q None → ((u : Used) → Finish c u → Q (Some (k, u))) → Q (at_address k x c)
         address_case k (Do (LoadO (Reg t) q) c) Q none some = go (is_in q 8) refl (register t == 8)
@@ -474,12 +490,12 @@ module _ (S : Setting) (fits : Fits S) where
       sum_at (Slot k) v c named is = absurd cc
 
       summed_done : (t x y z : Where) (c : NodesT Where) → is_in t 8 ≡ true → (Fitting S κ.fn (StepO t x y) → Named S κ.fn z × (add (word_of (Of κ) x (with_reg 8 w a)) (word_of (Of κ) y (with_reg 8 w a)) ≡ add (word_of (Of κ) z b) w)) →
-          Done o (Do (StepO t x y) c) (with_known (Of κ) (Some (8, w)) (at_address 2 (Some z) c))
+          Done o (Do (StepO t x y) c) (with_known S.whole.globals (Of κ) (Some (8, w)) (at_address 2 (Some z) c))
       unfolding does
       summed_done t x y z c is facts =
           let v = add (word_of (Of κ) z b) w in
           let u = StepO t x y in
-          address_case (Some z) (written (written a.regs 8 w) 8 v) (twice_like v) (λ q named there_is. sym (there q v (with_reg 8 w a) named there_is)) 2 c (λ k. Done o (Do u c) (with_known (Of κ) (Some (8, w)) k)) (one_done o (Do u c) fit stays)
+          address_case (Some z) (written (written a.regs 8 w) 8 v) (twice_like v) (λ q named there_is. sym (there q v (with_reg 8 w a) named there_is)) 2 c (λ k. Done o (Do u c) (with_known S.whole.globals (Of κ) (Some (8, w)) k)) (one_done o (Do u c) fit stays)
           (λ k ends ff st.
           let f = facts ff.0 in
           put_done o 8 w (front_acts (lang S) (Do u c) 2) fit puts (λ s1 h1.
@@ -503,10 +519,10 @@ module _ (S : Setting) (fits : Fits S) where
           go true ex false ey = λ n. (n.2, (λ i. add (there x w a n.1 ex i) (elsewhere y n.2 ey i)) ∙ sum_turned (word_of (Of κ) y b) w)
           go false ex true ey = λ n. (n.1, λ i. add (elsewhere x n.1 ex i) (there y w a n.2 ey i))
 
-      sum_behind : (t x y : Where) (c : NodesT Where) → is_in t 8 ≡ true → Done o (Do (StepO t x y) c) (with_known (Of κ) (Some (8, w)) (at_sum (beside x y) c))
+      sum_behind : (t x y : Where) (c : NodesT Where) → is_in t 8 ≡ true → Done o (Do (StepO t x y) c) (with_known S.whole.globals (Of κ) (Some (8, w)) (at_sum (beside x y) c))
       sum_behind t x y c is = go (beside x y) (sum_is t x y)
         where
-          go : (z : Option Where) → SumIs t x y z → Done o (Do (StepO t x y) c) (with_known (Of κ) (Some (8, w)) (at_sum z c))
+          go : (z : Option Where) → SumIs t x y z → Done o (Do (StepO t x y) c) (with_known S.whole.globals (Of κ) (Some (8, w)) (at_sum z c))
           go None f = one_done o (Do (StepO t x y) c) fit stays
           go (Some z) f = summed_done t x y z c is f
 
@@ -530,7 +546,7 @@ module _ (S : Setting) (fits : Fits S) where
       three_summed x y z = omega arith
 
       index_done : (t z q d g : ℕ) (x y u i j : Where) (c : NodesT Where) → (register t == 8) ≡ false → (register z == register t) ≡ true → SumIs (Reg t) x y (Some (Reg z)) → other_word (register t) u i j ≡ Some q → (q == 8) ≡ false → (register d == register t) && (register g == register t) ≡ true →
-          Done o (Do (StepO (Reg t) x y) (Do (StepO u i j) (Do (LoadO (Reg d) (Reg g)) c))) (with_known (Of κ) (Some (8, w)) (Some (3, Indexed (register t) q)))
+          Done o (Do (StepO (Reg t) x y) (Do (StepO u i j) (Do (LoadO (Reg d) (Reg g)) c))) (with_known S.whole.globals (Of κ) (Some (8, w)) (Some (3, Indexed (register t) q)))
       unfolding does
       index_done t z q d g x y u i j c apart same is other elsewhere_q there ff st =
           let one = StepO (Reg t) x y in
@@ -571,54 +587,69 @@ module _ (S : Setting) (fits : Fits S) where
             | inr ge ↦ let same : q ≡ 8 = omega (arith, ge, lt) in absurd (eqb-false q 8 ne same)
           ]
 
-      indexed_done : (t x y : Where) (z : Option Where) (rest : Option (ℕ × Used)) (c : NodesT Where) → is_in t 8 ≡ false → SumIs t x y z → Done o (Do (StepO t x y) c) (with_known (Of κ) (Some (8, w)) rest) → Done o (Do (StepO t x y) c) (with_known (Of κ) (Some (8, w)) (or_else (indexed t z c) rest))
+      indexed_done : (t x y : Where) (z : Option Where) (rest : Option (ℕ × Used)) (c : NodesT Where) → is_in t 8 ≡ false → SumIs t x y z → Done o (Do (StepO t x y) c) (with_known S.whole.globals (Of κ) (Some (8, w)) rest) → Done o (Do (StepO t x y) c) (with_known S.whole.globals (Of κ) (Some (8, w)) (or_else (indexed t z c) rest))
       indexed_done (Reg t) x y (Some (Reg z)) rest c apart is done = go (register z == register t) refl
         where
-          go : (f : Bool) → (register z == register t) ≡ f → Done o (Do (StepO (Reg t) x y) c) (with_known (Of κ) (Some (8, w)) (or_else (cond f (index_behind (register t) c) None) rest))
+          go : (f : Bool) → (register z == register t) ≡ f → Done o (Do (StepO (Reg t) x y) c) (with_known S.whole.globals (Of κ) (Some (8, w)) (or_else (cond f (index_behind (register t) c) None) rest))
           go false same = done
           go true same =
-              index_case (register t) (λ c k. Done o (Do (StepO (Reg t) x y) c) (with_known (Of κ) (Some (8, w)) rest) → Done o (Do (StepO (Reg t) x y) c) (with_known (Of κ) (Some (8, w)) (or_else k rest)))
+              index_case (register t) (λ c k. Done o (Do (StepO (Reg t) x y) c) (with_known S.whole.globals (Of κ) (Some (8, w)) rest) → Done o (Do (StepO (Reg t) x y) c) (with_known S.whole.globals (Of κ) (Some (8, w)) (or_else k rest)))
               (λ c d. d) (λ u i j d g q c other elsewhere_q there rest_done. index_done t z q d g x y u i j c apart same is other elsewhere_q there) c done
       indexed_done (Reg t) x y (Some (Slot k)) rest c apart is done = done
       indexed_done (Reg t) x y None rest c apart is done = done
       indexed_done (Slot k) x y z rest c apart is done = done
 
-      -- behind a sum in another register: a number is put into register 8 and added to it there, and the other register is loaded from there
-      offset_case : (t : ℕ) (z : Where) (Q : NodesT Where → Option (ℕ × Used) → Type 0) → ((c : NodesT Where) → Q c None) →
-          ((r s i j g : Where) (d q n : ℕ) (c : NodesT Where) → is_in r 8 ≡ true → beside i j ≡ Some (Reg q) → (register q == t) && is_in s 8 ≡ true → (register d == t) && is_in g 8 ≡ true →
-          Q (Do (ConstO r n) (Do (StepO s i j) (Do (LoadO (Reg d) g) c))) (Some (4, Offset t z n))) → (c : NodesT Where) → Q c (offset_behind t z c)
-      offset_case t z Q none some (Do (ConstO r n) (Do (StepO s i j) (Do (LoadO (Reg d) g) c))) = go (is_in r 8) refl (beside i j) refl
+      -- a word is put into register 8 and added to what stands in another register there, and that register is loaded from there
+      load_case : (t : ℕ) (u : Used) (Q : NodesT Where → Option (ℕ × Used) → Type 0) → ((c : NodesT Where) → Q c None) →
+          ((s i j g : Where) (d q : ℕ) (c : NodesT Where) → beside i j ≡ Some (Reg q) → (register q == t) && is_in s 8 ≡ true → (register d == t) && is_in g 8 ≡ true →
+          Q (Do (StepO s i j) (Do (LoadO (Reg d) g) c)) (Some (4, u))) → (c : NodesT Where) → Q c (offset_step t u c)
+      load_case t u Q none some (Do (StepO s i j) (Do (LoadO (Reg d) g) c)) = go (beside i j) refl
         where
-          last : (q : ℕ) → is_in r 8 ≡ true → beside i j ≡ Some (Reg q) → (register q == t) && is_in s 8 ≡ true → (f : Bool) → (register d == t) && is_in g 8 ≡ f → Q (Do (ConstO r n) (Do (StepO s i j) (Do (LoadO (Reg d) g) c))) (cond f (Some (4, Offset t z n)) None)
-          last q eight_r by sum false there = none _
-          last q eight_r by sum true there = some r s i j g d q n c eight_r by sum there
+          last : (q : ℕ) → beside i j ≡ Some (Reg q) → (register q == t) && is_in s 8 ≡ true → (f : Bool) → (register d == t) && is_in g 8 ≡ f → Q (Do (StepO s i j) (Do (LoadO (Reg d) g) c)) (cond f (Some (4, u)) None)
+          last q by sum false there = none _
+          last q by sum true there = some s i j g d q c by sum there
 
-          made : (q : ℕ) → is_in r 8 ≡ true → beside i j ≡ Some (Reg q) → (f : Bool) → (register q == t) && is_in s 8 ≡ f → Q (Do (ConstO r n) (Do (StepO s i j) (Do (LoadO (Reg d) g) c))) (cond f (offset_load t z n (Do (LoadO (Reg d) g) c)) None)
-          made q eight_r by false sum = none _
-          made q eight_r by true sum = last q eight_r by sum ((register d == t) && is_in g 8) refl
+          made : (q : ℕ) → beside i j ≡ Some (Reg q) → (f : Bool) → (register q == t) && is_in s 8 ≡ f → Q (Do (StepO s i j) (Do (LoadO (Reg d) g) c)) (cond f (offset_load t u (Do (LoadO (Reg d) g) c)) None)
+          made q by false sum = none _
+          made q by true sum = last q by sum ((register d == t) && is_in g 8) refl
 
-          go : (f : Bool) → is_in r 8 ≡ f → (x : Option Where) → beside i j ≡ x → Q (Do (ConstO r n) (Do (StepO s i j) (Do (LoadO (Reg d) g) c))) (cond f (offset_sum t z n s x (Do (LoadO (Reg d) g) c)) None)
-          go false eight_r x by = none _
-          go true eight_r None by = none _
-          go true eight_r (Some (Slot k)) by = none _
-          go true eight_r (Some (Reg q)) by = made q eight_r by ((register q == t) && is_in s 8) refl
-      offset_case t z Q none some (Do (ConstO r n) (Do (StepO s i j) c)) = go (is_in r 8) (beside i j)
+          go : (x : Option Where) → beside i j ≡ x → Q (Do (StepO s i j) (Do (LoadO (Reg d) g) c)) (offset_sum t u s x (Do (LoadO (Reg d) g) c))
+          go None by = none _
+          go (Some (Slot k)) by = none _
+          go (Some (Reg q)) by = made q by ((register q == t) && is_in s 8) refl
+      load_case t u Q none some (Do (StepO s i j) c) = go (beside i j)
         where
-          made : (f : Bool) → Q (Do (ConstO r n) (Do (StepO s i j) c)) (cond f (offset_load t z n c) None)
+          made : (f : Bool) → Q (Do (StepO s i j) c) (cond f (offset_load t u c) None)
           made false = none _
           made true = none _
 
-          go : (f : Bool) (x : Option Where) → Q (Do (ConstO r n) (Do (StepO s i j) c)) (cond f (offset_sum t z n s x c) None)
-          go false x = none _
-          go true None = none _
-          go true (Some (Slot k)) = none _
-          go true (Some (Reg q)) = made ((register q == t) && is_in s 8)
-      offset_case t z Q none some (Do (ConstO r n) c) = go (is_in r 8)
+          go : (x : Option Where) → Q (Do (StepO s i j) c) (offset_sum t u s x c)
+          go None = none _
+          go (Some (Slot k)) = none _
+          go (Some (Reg q)) = made ((register q == t) && is_in s 8)
+      load_case t u Q none some c = none c
+
+      -- behind a sum in another register: a number
+      offset_case : (t : ℕ) (z : Where) (Q : NodesT Where → Option (ℕ × Used) → Type 0) → ((c : NodesT Where) → Q c None) →
+          ((r s i j g : Where) (d q n : ℕ) (c : NodesT Where) → is_in r 8 ≡ true → beside i j ≡ Some (Reg q) → (register q == t) && is_in s 8 ≡ true → (register d == t) && is_in g 8 ≡ true →
+          Q (Do (ConstO r n) (Do (StepO s i j) (Do (LoadO (Reg d) g) c))) (Some (4, Offset t z n))) → (c : NodesT Where) → Q c (offset_behind t z c)
+      offset_case t z Q none some (Do (ConstO r n) c) = go (is_in r 8) refl
         where
-          go : (f : Bool) → Q (Do (ConstO r n) c) (cond f (offset_step t z n c) None)
-          go false = none _
-          go true = none _
+          go : (f : Bool) → is_in r 8 ≡ f → Q (Do (ConstO r n) c) (cond f (offset_step t (Offset t z n) c) None)
+          go false eight_r = none _
+          go true eight_r = load_case t (Offset t z n) (λ e x. Q (Do (ConstO r n) e) x) (λ e. none _) (λ s i j g d q e by sum there. some r s i j g d q n e eight_r by sum there) c
       offset_case t z Q none some c = none c
+
+      -- and the address of a global
+      element_case : (o : TwoOf) (t : ℕ) (z : Where) (Q : NodesT Where → Option (ℕ × Used) → Type 0) → ((c : NodesT Where) → Q c None) →
+          ((r s i j g : Where) (d q k : ℕ) (c : NodesT Where) → is_in r 8 ≡ true → beside i j ≡ Some (Reg q) → (register q == t) && is_in s 8 ≡ true → (register d == t) && is_in g 8 ≡ true →
+          Q (Do (GlobalO r k) (Do (StepO s i j) (Do (LoadO (Reg d) g) c))) (Some (4, Element o t z k))) → (c : NodesT Where) → Q c (element_behind o t z c)
+      element_case o t z Q none some (Do (GlobalO r k) c) = go (is_in r 8) refl
+        where
+          go : (f : Bool) → is_in r 8 ≡ f → Q (Do (GlobalO r k) c) (cond f (offset_step t (Element o t z k) c) None)
+          go false eight_r = none _
+          go true eight_r = load_case t (Element o t z k) (λ e x. Q (Do (GlobalO r k) e) x) (λ e. none _) (λ s i j g d q e by sum there. some r s i j g d q k e eight_r by sum there) c
+      element_case o t z Q none some c = none c
 
       -- a sum of the word of a place and one that stands in register 8
       sum_with : (v : ℕ) (c : Addr) (x y z : Where) → Named S κ.fn x → Named S κ.fn y → beside x y ≡ Some z → Named S κ.fn z × (is_in z 8 ≡ false) × (add (word_of (Of κ) x (with_reg 8 v c)) (word_of (Of κ) y (with_reg 8 v c)) ≡ add (word_of (Of κ) z (with_reg 8 v c)) v)
@@ -633,17 +664,20 @@ module _ (S : Setting) (fits : Fits S) where
       sums_turned : (x y z : ℕ) → add (add x y) z ≡ add x (add y z)
       sums_turned x y z = omega arith
 
-      offset_done : (t d q n : ℕ) (x y z r s i j g : Where) (c : NodesT Where) → (register t == 8) ≡ false → SumIs (Reg t) x y (Some z) → is_in r 8 ≡ true → beside i j ≡ Some (Reg q) → (register q == register t) && is_in s 8 ≡ true → (register d == register t) && is_in g 8 ≡ true →
-          Done o (Do (StepO (Reg t) x y) (Do (ConstO r n) (Do (StepO s i j) (Do (LoadO (Reg d) g) c)))) (with_known (Of κ) (Some (8, w)) (Some (4, Offset (register t) z n)))
+      -- a word is added in register t to that of a place, one more is put into register 8 and added, and register t is loaded from there
+      added_done : (one two : OpT Where) (u : Used) (t d q n v1 : ℕ) (z r s i j g : Where) (c : NodesT Where) → (register t == 8) ≡ false →
+          (Fitting S κ.fn one → (t < 9) × Named S κ.fn z × ((ys : List ℕ) → does C S.address S.whole (Of κ) one ys (with_reg 8 w a) ≡ words.Goes [] ys (with_reg t (add (word_of (Of κ) z b) v1) (with_reg 8 w a)))) →
+          (Fitting S κ.fn two → Named S κ.fn r) → ((ys : List ℕ) (e : Addr) → does C S.address S.whole (Of κ) two ys e ≡ words.Goes [] ys (put (Of κ) r n e)) →
+          using_it S.whole.globals (Of κ) w u ≡ using_it S.whole.globals (Of κ) (add v1 n) (Loaded (register t) (Some z)) →
+          is_in r 8 ≡ true → beside i j ≡ Some (Reg q) → (register q == register t) && is_in s 8 ≡ true → (register d == register t) && is_in g 8 ≡ true →
+          Done o (Do one (Do two (Do (StepO s i j) (Do (LoadO (Reg d) g) c)))) (with_known S.whole.globals (Of κ) (Some (8, w)) (Some (4, u)))
       unfolding does
-      offset_done t d q n x y z r s i j g c apart is eight_r by sum into ff st =
-          let one = StepO (Reg t) x y in
-          let two = ConstO r n in
+      added_done one two u t d q n v1 z r s i j g c apart facts named puts_it using eight_r by sum into ff st =
           let three = StepO s i j in
           let load = LoadO (Reg d) g in
-          let lt : t < 9 = ff.0.0 in
-          let f = is ff.0 in
-          let v = add (word_of (Of κ) z b) w in
+          let f = facts ff.0 in
+          let lt : t < 9 = f.0 in
+          let v = add (word_of (Of κ) z b) v1 in
           let a1 = with_reg 8 w a in
           let a2 = with_reg t v a1 in
           let a3 = with_reg 8 n a2 in
@@ -654,7 +688,7 @@ module _ (S : Setting) (fits : Fits S) where
           let held : written a2.regs 8 n q ≡ v = written_other a2.regs 8 n q (λ k. eqb-false (register q) 8 added.1 (ap register k)) ∙ written_same a1.regs t v q q_is in
           let m1 = add v n in
           let a4 = with_reg 8 m1 a3 in
-          let m2 = add (word_of (Of κ) z b) (add w n) in
+          let m2 = add (word_of (Of κ) z b) (add v1 n) in
           let sum_at_8 : add (word_of (Of κ) i a3) (word_of (Of κ) j a3) ≡ m1 = added.2 ∙ ap (λ k. add k n) held in
           let ld : d < 9 = ff.1.1.1.0.0 in
           let d_register : register d ≡ register t = eqb-true (register d) (register t) (both (register d == register t) (is_in g 8) into).0 in
@@ -663,11 +697,11 @@ module _ (S : Setting) (fits : Fits S) where
           put_done o 8 w (front_acts (lang S) (Do one (Do two (Do three (Do load c)))) 4) fit puts (λ s1 h1.
           let s2 = spent (op_weight one) s1 in
           passes κ s1 m a1 a2 (op_weight one) p (acted registers_and_slots (sizes S) one s2) (front_acts (lang S) (Do two (Do three (Do load c))) 3)
-          (subst (λ e. DoesAs S κ s2 a1 (acted registers_and_slots (sizes S) one s2) e) (ap (λ k. words.Goes [] s1.world.store.answers (with_reg t k a1)) f.1) (acts S fits κ s2 h1.place a1 h1.at one ff.0))
+          (subst (λ e. DoesAs S κ s2 a1 (acted registers_and_slots (sizes S) one s2) e) (f.2 s1.world.store.answers) (acts S fits κ s2 h1.place a1 h1.at one ff.0))
           (λ s3 h3.
           let s4 = spent (op_weight two) s3 in
           passes κ s3 m a2 a3 (op_weight two) p (acted registers_and_slots (sizes S) two s4) (front_acts (lang S) (Do three (Do load c)) 2)
-          (subst (λ e. DoesAs S κ s4 a2 (acted registers_and_slots (sizes S) two s4) e) (ap (λ k. words.Goes [] s3.world.store.answers k) (sum_at r n a2 ff.1.0 eight_r)) (acts S fits κ s4 h3.place a2 h3.at two ff.1.0))
+          (subst (λ e. DoesAs S κ s4 a2 (acted registers_and_slots (sizes S) two s4) e) (puts_it s3.world.store.answers a2 ∙ ap (λ k. words.Goes [] s3.world.store.answers k) (sum_at r n a2 (named ff.1.0) eight_r)) (acts S fits κ s4 h3.place a2 h3.at two ff.1.0))
           (λ s5 h5.
           let s6 = spent (op_weight three) s5 in
           passes κ s5 m a3 a4 (op_weight three) p (acted registers_and_slots (sizes S) three s6) (front_acts (lang S) (Do load c) 1)
@@ -679,22 +713,57 @@ module _ (S : Setting) (fits : Fits S) where
           (last_by κ p load s7 m a4 (written h.registers t v) (loaded (readable C m2) (Of κ) (Reg t) (h.words.memory m2) ys (with_reg t v b)) like h7 ff.1.1.1.0
           (subst (λ k. Alongside (Number κ) (loaded (readable C (word_of (Of κ) g a4)) (Of κ) (Reg d) (h.words.memory (word_of (Of κ) g a4)) ys a4) (loaded (readable C m2) (Of κ) (Reg k) (h.words.memory m2) ys (with_reg t v b))) d_is
           (loaded_alike C S.address S.whole (Of κ) (Number κ) a4 (written h.registers t v) like (Reg d) (word_of (Of κ) g a4) m2 ys
-          (sym (sums_turned (word_of (Of κ) z b) w n) ∙ sym (there g m1 a3 ff.1.1.1.0.1 (both (register d == register t) (is_in g 8) into).1))))
+          (sym (sums_turned (word_of (Of κ) z b) v1 n) ∙ sym (there g m1 a3 ff.1.1.1.0.1 (both (register d == register t) (is_in g 8) into).1))))
           (before_load C S.address (Of κ) b roomy t v (h.words.memory m2) 8 (readable C m2) m ys p lt
-          (loaded_follows C S.address (Of κ) b roomy t (Some z) (add w n) m ys pc p lt (good S fits κ z f.0, tt) h.held e st)))))))
+          (loaded_follows C S.address (Of κ) b roomy S.whole.globals t (Some z) (add v1 n) m ys pc p lt (good S fits κ z f.1, tt) h.held e
+          (subst (λ k. Stand C.words S.address pc (before_it k.0 ++ item.Op k.1 ∷ []) p) using st))))))))
 
-      at_offset_done : (t x y : Where) (z : Option Where) (rest : Option (ℕ × Used)) (c : NodesT Where) → is_in t 8 ≡ false → SumIs t x y z → Done o (Do (StepO t x y) c) (with_known (Of κ) (Some (8, w)) rest) → Done o (Do (StepO t x y) c) (with_known (Of κ) (Some (8, w)) (or_else (offset t z c) rest))
+      offset_done : (t d q n : ℕ) (x y z r s i j g : Where) (c : NodesT Where) → (register t == 8) ≡ false → SumIs (Reg t) x y (Some z) → is_in r 8 ≡ true → beside i j ≡ Some (Reg q) → (register q == register t) && is_in s 8 ≡ true → (register d == register t) && is_in g 8 ≡ true →
+          Done o (Do (StepO (Reg t) x y) (Do (ConstO r n) (Do (StepO s i j) (Do (LoadO (Reg d) g) c)))) (with_known S.whole.globals (Of κ) (Some (8, w)) (Some (4, Offset (register t) z n)))
+      unfolding does
+      offset_done t d q n x y z r s i j g c apart is eight_r by sum into =
+          added_done (StepO (Reg t) x y) (ConstO r n) (Offset (register t) z n) t d q n w z r s i j g c apart
+          (λ f. let k = is f in (f.0, k.0, λ ys. ap (λ v. words.Goes [] ys (with_reg t v (with_reg 8 w a))) k.1)) (λ f. f) (λ ys e. refl) refl eight_r by sum into
+
+      at_offset_done : (t x y : Where) (z : Option Where) (rest : Option (ℕ × Used)) (c : NodesT Where) → is_in t 8 ≡ false → SumIs t x y z → Done o (Do (StepO t x y) c) (with_known S.whole.globals (Of κ) (Some (8, w)) rest) → Done o (Do (StepO t x y) c) (with_known S.whole.globals (Of κ) (Some (8, w)) (or_else (offset t z c) rest))
       at_offset_done (Reg t) x y (Some z) rest c apart is done =
-          offset_case (register t) z (λ c k. Done o (Do (StepO (Reg t) x y) c) (with_known (Of κ) (Some (8, w)) rest) → Done o (Do (StepO (Reg t) x y) c) (with_known (Of κ) (Some (8, w)) (or_else k rest)))
+          offset_case (register t) z (λ c k. Done o (Do (StepO (Reg t) x y) c) (with_known S.whole.globals (Of κ) (Some (8, w)) rest) → Done o (Do (StepO (Reg t) x y) c) (with_known S.whole.globals (Of κ) (Some (8, w)) (or_else k rest)))
           (λ c d. d) (λ r s i j g d q n c eight_r by sum into rest_done. offset_done t d q n x y z r s i j g c apart is eight_r by sum into) c done
       at_offset_done (Reg t) x y None rest c apart is done = done
       at_offset_done (Slot k) x y z rest c apart is done = done
 
-      sent_done : (port : ℕ) (q : Where) (c : NodesT Where) → Done o (Do (OutO port q) c) (with_known (Of κ) (Some (8, w)) (cond (is_in q 8) (Some (1, Sent port)) None))
+      two_added : (j : TwoOf) (x : ℕ) → adds j ≡ true → two_of j x w ≡ Some (add x (addend j w))
+      two_added IADD x e = sum_made IADD w w x refl
+      two_added ISUB x e = sum_made ISUB w (sub 0 w) x refl
+      two_added _ x e = absurd cc
+
+      -- behind what an operator makes that adds or takes away: the address of a global is put into register 8 and added there, and the register is loaded
+      element_done : (u : OpT Where) (t : ℕ) (k : Option (TwoOf × Where)) (rest : Option (ℕ × Used)) (c : NodesT Where) → Operates u t k → Done o (Do u c) (with_known S.whole.globals (Of κ) (Some (8, w)) rest) → Done o (Do u c) (with_known S.whole.globals (Of κ) (Some (8, w)) (or_else (element (Reg t) k c) rest))
+      unfolding does
+      element_done u t None rest c m done = done
+      element_done u t (Some (o1, z)) rest c m done = test (adds o1) refl (register t == 8) refl
+        where
+          test : (f : Bool) → adds o1 ≡ f → (g : Bool) → (register t == 8) ≡ g → Done o (Do u c) (with_known S.whole.globals (Of κ) (Some (8, w)) (or_else (cond (f && not g) (element_behind o1 (register t) z c) None) rest))
+          test false is g apart = done
+          test true is true apart = done
+          test true is false apart =
+              element_case o1 (register t) z (λ c k. Done o (Do u c) (with_known S.whole.globals (Of κ) (Some (8, w)) rest) → Done o (Do u c) (with_known S.whole.globals (Of κ) (Some (8, w)) (or_else k rest)))
+              (λ c d. d) (λ r s i j g d q k c eight_r by sum into rest_done.
+              added_done u (GlobalO r k) (Element o1 (register t) z k) t d q (get_or S.whole.globals k 0) (addend o1 w) z r s i j g c apart
+              (λ ff. let n = m ff in (n.1.low, n.0, λ ys. n.1.so ys ∙ ap (λ v. computed (Of κ) (Reg t) v ys (with_reg 8 w a)) (two_added o1 (word_of (Of κ) z b) is))) (λ f. f.0) (λ ys e. refl) refl eight_r by sum into) c done
+
+      two_done_with : (i : TwoOf) (t x y : Where) (c : NodesT Where) → Done o (Do (TwoO i t x y) c) (with_known S.whole.globals (Of κ) (Some (8, w)) (used_by (Do (TwoO i t x y) c)))
+      unfolding does
+      two_done_with i (Reg t) x y c =
+          element_done (TwoO i (Reg t) x y) t (operand i x y) (groups.computed (Reg t) (operand i x y)) c (operates (TwoO i (Reg t) x y) c i x y refl t (λ n. n) (λ ys d. refl))
+          (operand_done (TwoO i (Reg t) x y) c i x y refl (Reg t) (λ n. n) (λ ys d. refl))
+      two_done_with i (Slot k) x y c = operand_done (TwoO i (Slot k) x y) c i x y refl (Slot k) (λ n. n) (λ ys d. refl)
+
+      sent_done : (port : ℕ) (q : Where) (c : NodesT Where) → Done o (Do (OutO port q) c) (with_known S.whole.globals (Of κ) (Some (8, w)) (cond (is_in q 8) (Some (1, Sent port)) None))
       unfolding does
       sent_done port q c = go (is_in q 8) refl
         where
-          go : (f : Bool) → is_in q 8 ≡ f → Done o (Do (OutO port q) c) (with_known (Of κ) (Some (8, w)) (cond f (Some (1, Sent port)) None))
+          go : (f : Bool) → is_in q 8 ≡ f → Done o (Do (OutO port q) c) (with_known S.whole.globals (Of κ) (Some (8, w)) (cond f (Some (1, Sent port)) None))
           go false is = one_done o (Do (OutO port q) c) fit stays
           go true is = λ ff st.
               put_done o 8 w (front_acts (lang S) (Do (OutO port q) c) 1) fit puts (λ s1 h1. alone κ m (begin (holder S) s1) p c ((lang S).act (OutO port q) s1)
@@ -702,17 +771,17 @@ module _ (S : Setting) (fits : Fits S) where
               (ap (λ v. event.Out port v ∷ []) (sym (there q w a ff.0.0 is)), refl, record { same = refl; regs = spared_like w })
               (sent_follows C S.address (Of κ) b roomy port w m s1.world.store.answers pc p ff.0.1 ff.0.2 h.held e st)))
 
-      address_done : (u : OpT Where) (c : NodesT Where) → Done o (Do u c) (with_known (Of κ) (Some (8, w)) (at_address 1 None (Do u c)))
+      address_done : (u : OpT Where) (c : NodesT Where) → Done o (Do u c) (with_known S.whole.globals (Of κ) (Some (8, w)) (at_address 1 None (Do u c)))
       address_done u c =
-          address_case None (written a.regs 8 w) (spared_like w) (λ q named is. sym (there q w a named is)) 1 (Do u c) (λ k. Done o (Do u c) (with_known (Of κ) (Some (8, w)) k)) (one_done o (Do u c) fit stays)
+          address_case None (written a.regs 8 w) (spared_like w) (λ q named is. sym (there q w a named is)) 1 (Do u c) (λ k. Done o (Do u c) (with_known S.whole.globals (Of κ) (Some (8, w)) k)) (one_done o (Do u c) fit stays)
           (λ k ends ff st. put_done o 8 w (front_acts (lang S) (Do u c) 1) fit puts (λ s1 h1. ends s1 h1 tt ff st))
 
-      used_done : (u : OpT Where) (c : NodesT Where) → Done o (Do u c) (with_known (Of κ) (Some (8, w)) (used_by (Do u c)))
+      used_done : (u : OpT Where) (c : NodesT Where) → Done o (Do u c) (with_known S.whole.globals (Of κ) (Some (8, w)) (used_by (Do u c)))
       unfolding does
-      used_done (TwoO i t x y) c = operand_done (TwoO i t x y) c i x y refl t (λ n. n) (λ ys d. refl)
+      used_done (TwoO i t x y) c = two_done_with i t x y c
       used_done (StepO t x y) c = go (is_in t 8) refl
         where
-          go : (f : Bool) → is_in t 8 ≡ f → Done o (Do (StepO t x y) c) (with_known (Of κ) (Some (8, w)) (cond f (at_sum (beside x y) c) (or_else (indexed t (beside x y) c) (or_else (offset t (beside x y) c) (groups.computed t (operand IADD x y))))))
+          go : (f : Bool) → is_in t 8 ≡ f → Done o (Do (StepO t x y) c) (with_known S.whole.globals (Of κ) (Some (8, w)) (cond f (at_sum (beside x y) c) (or_else (indexed t (beside x y) c) (or_else (offset t (beside x y) c) (groups.computed t (operand IADD x y))))))
           go true is = sum_behind t x y c is
           go false is =
               indexed_done t x y (beside x y) (or_else (offset t (beside x y) c) (groups.computed t (operand IADD x y))) c is (sum_is t x y)
@@ -724,24 +793,24 @@ module _ (S : Setting) (fits : Fits S) where
 
     -- ---- all of them
 
-    known_done : (o u : OpT Where) (c : NodesT Where) → (Of κ).registers ≡ 8 → puts o ≡ true → Fitting S κ.fn o → Done o (Do u c) (with_known (Of κ) (word_put S.whole o) (used_by (Do u c)))
+    known_done : (o u : OpT Where) (c : NodesT Where) → (Of κ).registers ≡ 8 → puts o ≡ true → Fitting S κ.fn o → Done o (Do u c) (with_known S.whole.globals (Of κ) (word_put S.whole o) (used_by (Do u c)))
     unfolding does
     known_done (ConstO (Reg k) n) u c eight is fit =
         let q = eqb-true (register k) 8 is in
         let same : k ≡ 8 = omega (arith, fit, q) in
-        subst (λ r. Done (ConstO (Reg k) n) (Do u c) (with_known (Of κ) (Some (r, n)) (used_by (Do u c)))) (sym q) (used_done eight (ConstO (Reg k) n) n fit tt (λ ys. ap (λ r. words.Goes [] ys (with_reg r n a)) same) u c)
+        subst (λ r. Done (ConstO (Reg k) n) (Do u c) (with_known S.whole.globals (Of κ) (Some (r, n)) (used_by (Do u c)))) (sym q) (used_done eight (ConstO (Reg k) n) n fit tt (λ ys. ap (λ r. words.Goes [] ys (with_reg r n a)) same) u c)
     known_done (GlobalO (Reg k) j) u c eight is fit =
         let q = eqb-true (register k) 8 is in
         let named = fit.0 in
         let same : k ≡ 8 = omega (arith, named, q) in
         let w = get_or S.whole.globals j 0 in
-        subst (λ r. Done (GlobalO (Reg k) j) (Do u c) (with_known (Of κ) (Some (r, w)) (used_by (Do u c)))) (sym q) (used_done eight (GlobalO (Reg k) j) w fit tt (λ ys. ap (λ r. words.Goes [] ys (with_reg r w a)) same) u c)
+        subst (λ r. Done (GlobalO (Reg k) j) (Do u c) (with_known S.whole.globals (Of κ) (Some (r, w)) (used_by (Do u c)))) (sym q) (used_done eight (GlobalO (Reg k) j) w fit tt (λ ys. ap (λ r. words.Goes [] ys (with_reg r w a)) same) u c)
     known_done _ u c eight is fit = absurd cc
 
-    more_done : (o u : OpT Where) (c : NodesT Where) → Fitting S κ.fn o → Sparing (Number κ) (Do o (Do u c)) zero → Done o (Do u c) (with_more (Of κ) (word_put S.whole o) u c)
+    more_done : (o u : OpT Where) (c : NodesT Where) → Fitting S κ.fn o → Sparing (Number κ) (Do o (Do u c)) zero → Done o (Do u c) (with_more S.whole.globals (Of κ) (word_put S.whole o) u c)
     more_done o u c fit sp = go (is_spared (Of κ) (word_put S.whole o)) refl
       where
-        go : (f : Bool) → is_spared (Of κ) (word_put S.whole o) ≡ f → Done o (Do u c) (cond f (with_known (Of κ) (word_put S.whole o) (used_by (Do u c))) (with_word (Of κ) (word_put S.whole o) u c))
+        go : (f : Bool) → is_spared (Of κ) (word_put S.whole o) ≡ f → Done o (Do u c) (cond f (with_known S.whole.globals (Of κ) (word_put S.whole o) (used_by (Do u c))) (with_word (Of κ) (word_put S.whole o) u c))
         go true is = let d = spared_is S κ.fn S.whole (Of κ) o (Do u c) sp is in known_done o u c d.0 d.1 fit
         go false is = λ ff st. word_done o u c fit (old_stays S κ.fn S.whole (Of κ) o u c sp is (fit, ff)) ff st
 

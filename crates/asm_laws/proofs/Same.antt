@@ -52,7 +52,7 @@ put_same W fr _ = refl
 
 in_one_same : (W : Whole) (fr : ℕ → Frame) (F : Frame) (o : OpT Where) (c : NodesT Where) → in_one (framed W fr) F o c ≡ in_one W F o c
 unfolding in_one
-in_one_same W fr F o (Do p c) = ap (λ s. with_more F s p c) (put_same W fr o)
+in_one_same W fr F o (Do p c) = ap (λ s. with_more W.globals F s p c) (put_same W fr o)
 in_one_same W fr F o _ = refl
 
 one_same : (W : Whole) (fr : ℕ → Frame) (F : Frame) (o : OpT Where) (r : Option (ℕ × Option (Instr Imm) × Instr Imm)) → one_or_more (framed W fr) F o r ≡ one_or_more W F o r

@@ -185,7 +185,7 @@ taking_size n _ h = absurd h
 
 one_size : (W : Whole) (F : Frame) (o : OpT Where) (c : NodesT Where) → size (one_or_more W F o (in_one W F o c)) ≤ op_weight o
 one_size W F o c =
-    one_or_more_is W F (λ xs. size xs ≤ op_weight o) (λ v. op_weight o ≡ 8) o c (λ t n e. (ap op_weight e, ap op_weight e, λ m. ap op_weight e)) (λ t k e. (ap op_weight e, ap op_weight e, λ m. ap op_weight e)) (op_size W F o)
+    one_or_more_is W F (λ xs. size xs ≤ op_weight o) (λ v. op_weight o ≡ 8) o c (λ t n e. (ap op_weight e, ap op_weight e, λ x y. ap op_weight e)) (λ t k e. (ap op_weight e, ap op_weight e, λ x y. ap op_weight e)) (op_size W F o)
     (λ i h. let t = taking_size (op_weight o) i h in let z = one_item (item.Op i) 2 t.1 in omega (arith, z, t.0)) (
       λ p r i lt h. (let t = taking_size (op_weight o) i h in let z = two_items (fetches F p r) (item.Op i) 2 2 (fetch_size F p r) t.1 in omega (arith, z, t.0)),
       λ r q i lr lq h. (let t = taking_size (op_weight o) i h in let z = two_items (item.Op (instr.Two IADD r (src.Reg q))) (item.Op i) 2 2 (omega arith) t.1 in omega (arith, z, t.0)),
@@ -224,7 +224,7 @@ group_size W F o c = group_is W F (λ xs. size xs ≤ op_weight o) o c (one_size
 
 next_size : (W : Whole) (F : Frame) (o : OpT Where) (c : NodesT Where) → size (next_items W F o c) ≤ op_weight o
 next_size W F o c =
-    next_is W F (λ xs. size xs ≤ op_weight o) (λ v. op_weight o ≡ 8) o c (λ t n e. (ap op_weight e, ap op_weight e, λ m. ap op_weight e)) (λ t k e. (ap op_weight e, ap op_weight e, λ m. ap op_weight e))
+    next_is W F (λ xs. size xs ≤ op_weight o) (λ v. op_weight o ≡ 8) o c (λ t n e. (ap op_weight e, ap op_weight e, λ x y. ap op_weight e)) (λ t k e. (ap op_weight e, ap op_weight e, λ x y. ap op_weight e))
     (λ i h. let t = taking_size (op_weight o) i h in let z = one_item (item.Op i) 2 t.1 in omega (arith, z, t.0)) (
       λ p r i lt h. (let t = taking_size (op_weight o) i h in let z = two_items (fetches F p r) (item.Op i) 2 2 (fetch_size F p r) t.1 in omega (arith, z, t.0)),
       λ r q i lr lq h. (let t = taking_size (op_weight o) i h in let z = two_items (item.Op (instr.Two IADD r (src.Reg q))) (item.Op i) 2 2 (omega arith) t.1 in omega (arith, z, t.0)),

@@ -233,7 +233,7 @@ module _ (S : Setting) (f : ℕ) (W : Whole) (F : Frame) where
   old_stays o u c (inl e) none h = nine_front S f F.registers (Do o (Do u c)) (suc (more_of (with_word F (word_put W o) u c))) e h
   old_stays o u c (inr e) none h = eight_front S f F.registers (Do o (Do u c)) (suc (more_of (with_word F (word_put W o) u c))) e.0 e.1 (sym (spared_puts F W o e.0) ∙ none, word_puts F (word_put W o) u c) h
 
-  known_more : (put : Option (ℕ × ℕ)) (x : Option (ℕ × Used)) → is_spared F put ≡ true → more_of (with_known F put x) ≡ count x
+  known_more : (put : Option (ℕ × ℕ)) (x : Option (ℕ × Used)) → is_spared F put ≡ true → more_of (with_known W.globals F put x) ≡ count x
   known_more None x e = absurd cc
   known_more (Some (r, w)) None e = refl
   known_more (Some (r, w)) (Some (k, u)) e = refl
@@ -247,7 +247,7 @@ module _ (S : Setting) (f : ℕ) (W : Whole) (F : Frame) where
       here : spares (Do u c) (group o (Do u c)) ≡ true
       here = (both (are_others (uses o)) (spares (Do u c) (group o (Do u c))) e.1).1
 
-      go : (b : Bool) → is_spared F (word_put W o) ≡ b → spares (Do u c) (more_of (cond b (with_known F (word_put W o) (used_by (Do u c))) (with_word F (word_put W o) u c))) ≡ true
+      go : (b : Bool) → is_spared F (word_put W o) ≡ b → spares (Do u c) (more_of (cond b (with_known W.globals F (word_put W o) (used_by (Do u c))) (with_word F (word_put W o) u c))) ≡ true
       go true is =
           let put : puts o ≡ true = sym (spared_puts F W o e.0) ∙ is in
           ap (spares (Do u c)) (known_more (word_put W o) (used_by (Do u c)) is ∙ ap (λ b. cond b (count (used_by (Do u c))) zero) (sym put)) ∙ here

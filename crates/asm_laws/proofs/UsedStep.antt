@@ -43,7 +43,7 @@ abbrev pub address_with : Frame → Option Where → ℕ → Addr → ℕ
 address_with F None w a = w
 address_with F (Some p) w a = add (word_of F p a) w
 
-sum_made : (o : TwoOf) (w v x : ℕ) → added o w ≡ Some v → two_of o x w ≡ Some (add x v)
+pub sum_made : (o : TwoOf) (w v x : ℕ) → added o w ≡ Some v → two_of o x w ≡ Some (add x v)
 sum_made IADD w v x e = let n : w ≡ v = cc in ap (λ z. Some (add x z)) n
 sum_made ISUB w v x e = let n : sub 0 w ≡ v = cc in ap Some (less_is x w) ∙ ap (λ z. Some (add x z)) n
 sum_made _ w v x e = absurd cc
@@ -121,9 +121,9 @@ module _ (C : Console) (address : List ℕ → ℕ) (F : Frame) (a : Addr) (room
         few = omega arith;
       })
 
-  pub computed_follows : (t : ℕ) (o : TwoOf) (x : Where) (w : ℕ) (s : State) (xs : List ℕ) (pc p : ℕ) → t < 9 → Good F x → Held C a s → s.counter ≡ pc → Here pc (before_it (using_it F w (Computed o (register t) x)).0 ++ item.Op (using_it F w (Computed o (register t) x)).1 ∷ []) p →
+  pub computed_follows : (gs : List ℕ) (t : ℕ) (o : TwoOf) (x : Where) (w : ℕ) (s : State) (xs : List ℕ) (pc p : ℕ) → t < 9 → Good F x → Held C a s → s.counter ≡ pc → Here pc (before_it (using_it gs F w (Computed o (register t) x)).0 ++ item.Op (using_it gs F w (Computed o (register t) x)).1 ∷ []) p →
       Follows C 8 s xs p a (computed F (Reg t) (two_of o (word_of F x a) w) xs a)
-  computed_follows t o x w s xs pc p lt good h e k = go x good (added o w) refl k
+  computed_follows gs t o x w s xs pc p lt good h e k = go x good (added o w) refl k
     where
       go : (x : Where) → Good F x → (z : Option ℕ) → added o w ≡ z → Here pc (before_it (known F o (register t) x w z).0 ++ item.Op (known F o (register t) x w z).1 ∷ []) p → Follows C 8 s xs p a (computed F (Reg t) (two_of o (word_of F x a) w) xs a)
       go (Reg q) good (Some v) is k = sum_follows t q o w v s xs pc p is lt good h e k
@@ -156,7 +156,7 @@ module _ (C : Console) (address : List ℕ → ℕ) (F : Frame) (a : Addr) (room
       subst (λ z. MakesNine C 3 s xs p a z) (sym (sum_made o w v (a.regs q) is))
       (made_later C 0 1 3 s s xs p a (Some x) (reaches_here s xs) (omega arith) (made_last C a s xs k.0 p (Some x) h eff (line_turn C a s pc (instr.Lea 9 (register q) (Some v)) k.0 h e k.1 (omega arith, omega arith, omega arith)) k.2))
 
-  pub known_at : (o : TwoOf) (x : Where) (w : ℕ) (s : State) (xs : List ℕ) (pc p : ℕ) → Good F x → Held C a s → s.counter ≡ pc → Here pc (before_it (using_it F w (Computed o 9 x)).0 ++ item.Op (using_it F w (Computed o 9 x)).1 ∷ []) p → MakesNine C 3 s xs p a (two_of o (word_of F x a) w)
+  pub known_at : (o : TwoOf) (x : Where) (w : ℕ) (s : State) (xs : List ℕ) (pc p : ℕ) → Good F x → Held C a s → s.counter ≡ pc → Here pc (before_it (known F o 9 x w (added o w)).0 ++ item.Op (known F o 9 x w (added o w)).1 ∷ []) p → MakesNine C 3 s xs p a (two_of o (word_of F x a) w)
   known_at o x w s xs pc p good h e k = go x good (added o w) refl k
     where
       go : (x : Where) → Good F x → (z : Option ℕ) → added o w ≡ z → Here pc (before_it (known F o 9 x w z).0 ++ item.Op (known F o 9 x w z).1 ∷ []) p → MakesNine C 3 s xs p a (two_of o (word_of F x a) w)
@@ -200,12 +200,12 @@ module _ (C : Console) (address : List ℕ → ℕ) (F : Frame) (a : Addr) (room
   unfolding act
   off_fails m r w x next s is e = rw (is, e) refl
 
-  pub loaded_follows : (t : ℕ) (x : Option Where) (w : ℕ) (s : State) (xs : List ℕ) (pc p : ℕ) → t < 9 → AllOf (Good F) (maybe x) → Held C a s → s.counter ≡ pc → Here pc (before_it (using_it F w (Loaded (register t) x)).0 ++ item.Op (using_it F w (Loaded (register t) x)).1 ∷ []) p →
+  pub loaded_follows : (gs : List ℕ) (t : ℕ) (x : Option Where) (w : ℕ) (s : State) (xs : List ℕ) (pc p : ℕ) → t < 9 → AllOf (Good F) (maybe x) → Held C a s → s.counter ≡ pc → Here pc (before_it (using_it gs F w (Loaded (register t) x)).0 ++ item.Op (using_it gs F w (Loaded (register t) x)).1 ∷ []) p →
       Follows C 8 s xs p a (loaded (readable C (address_with F x w a)) F (Reg t) (a.memory (address_with F x w a)) xs a)
-  loaded_follows t None w s xs pc p lt good h e k =
+  loaded_follows gs t None w s xs pc p lt good h e k =
       let i = instr.Mov (RegAt (register t) w) in
       read_last t w 8 i s xs k.0 p lt h (line_effect C a s pc i k.0 h e k.1 (omega arith, omega arith, omega arith)) (line_turn C a s pc i k.0 h e k.1 (omega arith, omega arith, omega arith)) k.2 (λ y z. at_goes (register t) w y k.0 s z) (λ z. at_fails (register t) w k.0 s z) (omega arith)
-  loaded_follows t (Some x) w s xs pc p lt good h e k =
+  loaded_follows gs t (Some x) w s xs pc p lt good h e k =
       let i = instr.Mov (RegAtOff (register t) (hand x 9) w) in
       let v = word_of F x a in
       let d = brought_parts x 9 (item.Op (instr.Mov (RegAtOff (register t) (hand x 9) (Left w))) ∷ []) pc p k in
@@ -244,7 +244,7 @@ module _ (C : Console) (address : List ℕ → ℕ) (F : Frame) (a : Addr) (room
       is = λ i r. (sym (twice (written a.regs t z) t x y r) ∙ sym (twice a.regs t x z r)) i
 
   pub indexed_follows : (W : Whole) (t q w d x : ℕ) (s : State) (xs : List ℕ) (pc p : ℕ) → t < 9 → q < 9 → d < 9 → x < 9 → (register d == register t) && (register x == register t) ≡ true → Held C a s → s.counter ≡ pc →
-      Here pc (before_it (using_it F w (Indexed (register t) q)).0 ++ item.Op (using_it F w (Indexed (register t) q)).1 ∷ []) p →
+      Here pc (before_it (using_it W.globals F w (Indexed (register t) q)).0 ++ item.Op (using_it W.globals F w (Indexed (register t) q)).1 ∷ []) p →
       Follows C 8 s xs p (with_reg t (add (add (a.regs t) (a.regs q)) w) a) (does C address W F (LoadO (Reg d) (Reg x)) xs (with_reg t (add (add (a.regs t) (a.regs q)) w) a))
   indexed_follows W t q w d x s xs pc p lt lq ld lx there h e l =
       let v = add (a.regs t) (a.regs q) in
@@ -292,9 +292,9 @@ module _ (C : Console) (address : List ℕ → ℕ) (F : Frame) (a : Addr) (room
   unfolding act
   beyond_fails m r w x next s at apart = rw (at, apart) refl
 
-  pub stored_follows : (x : Option Where) (y : Where) (w : ℕ) (s : State) (xs : List ℕ) (pc p : ℕ) → AllOf (Good F) (maybe x) → Good F y → in_slots x y ≡ false → Held C a s → s.counter ≡ pc → Here pc (before_it (using_it F w (Stored x y)).0 ++ item.Op (using_it F w (Stored x y)).1 ∷ []) p →
+  pub stored_follows : (gs : List ℕ) (x : Option Where) (y : Where) (w : ℕ) (s : State) (xs : List ℕ) (pc p : ℕ) → AllOf (Good F) (maybe x) → Good F y → in_slots x y ≡ false → Held C a s → s.counter ≡ pc → Here pc (before_it (using_it gs F w (Stored x y)).0 ++ item.Op (using_it gs F w (Stored x y)).1 ∷ []) p →
       Follows C 8 s xs p a (saved (writable C (address_with F x w a)) (address_with F x w a) (word_of F y a) xs a)
-  stored_follows None y w s xs pc p good gy apart h e k =
+  stored_follows gs None y w s xs pc p good gy apart h e k =
       let i = instr.Mov (AtReg w (hand y 10)) in
       let v = word_of F y a in
       let d = brought_parts y 10 (item.Op (instr.Mov (AtReg (Left w) (hand y 10))) ∷ []) pc p k in
@@ -304,7 +304,7 @@ module _ (C : Console) (address : List ℕ → ℕ) (F : Frame) (a : Addr) (room
       later C f.steps 7 8 s u xs p a (saved (writable C w) w v xs a) f.by (let n = f.few in omega (arith, n))
       (write_last w v 7 i u xs l.0 p f.held (line_effect C a u d.0 i l.0 f.held f.at l.1 (omega arith, hand_fits y 10 (omega arith), omega arith)) (line_turn C a u d.0 i l.0 f.held f.at l.1 (omega arith, hand_fits y 10 (omega arith), omega arith)) l.2
       (λ z. to_goes (hand y 10) w v l.0 u f.is z) (λ z. to_fails (hand y 10) w l.0 u z) (omega arith))
-  stored_follows (Some x) y w s xs pc p good gy apart h e k =
+  stored_follows gs (Some x) y w s xs pc p good gy apart h e k =
       let i = instr.Mov (AtOffReg (hand x 9) w (hand y 10)) in
       let q = word_of F x a in
       let v = word_of F y a in

@@ -22,7 +22,7 @@ use Rattle.mid_code.specs.Code.{StoreO, FreshO, EndO, InO, OutO, WaitO, HaltO}
 use Rattle.asm_laws.specs.Names.{literal_label, function_label}
 use Rattle.asm_laws.specs.Moves.{Move, in_order}
 use Rattle.asm_laws.specs.declared.used.Used.{Used}
-use Rattle.asm_laws.specs.declared.used.Used.TheVariants.{Computed, Loaded, Indexed, Offset, Stored, Sent}
+use Rattle.asm_laws.specs.declared.used.Used.TheVariants.{Computed, Loaded, Indexed, Offset, Element, Stored, Sent}
 use Rattle.asm_laws.specs.Pieces.{register, is_in, turned, other_word, loads_there}
 use Rattle.asm_laws.specs.declared.made.Made.{Made}
 use Rattle.asm_laws.specs.declared.made.Made.TheVariants.{Both, Known}
@@ -284,31 +284,37 @@ abbrev pub known : Frame → TwoOf → ℕ → Where → ℕ → Option ℕ → 
 known F o t (Reg q) w (Some v) = (None, instr.Lea t (register q) (Some (Left v)))
 known F o t p w _ = (taken F p t, instr.Two o t (src.Imm (Left w)))
 
--- the instruction that uses a known word, behind one where there is one
-abbrev pub using_it : Frame → ℕ → Used → Option (Instr Imm) × Instr Imm
-using_it F w (Computed o t p) = known F o t p w (added o w)
-using_it F w (Loaded t None) = (None, instr.Mov (RegAt t (Left w)))
-using_it F w (Loaded t (Some p)) = (brought F p 9, instr.Mov (RegAtOff t (hand p 9) (Left w)))
-using_it F w (Indexed t q) = (Some (instr.Two IADD t (src.Reg q)), instr.Mov (RegAtOff t t (Left w)))
-using_it F w (Offset t p n) = (brought F p 9, instr.Mov (RegAtOff t (hand p 9) (Left (add w n))))
-using_it F w (Stored None a) = (brought F a 10, instr.Mov (AtReg (Left w) (hand a 10)))
-using_it F w (Stored (Some p) a) = (either (brought F p 9) (brought F a 10), instr.Mov (AtOffReg (hand p 9) (Left w) (hand a 10)))
-using_it F w (Sent p) = (None, instr.Out (port p) (src.Imm (Left w)))
+-- what an operator adds that adds a word or takes it away
+abbrev pub addend : TwoOf → ℕ → ℕ
+addend ISUB w = sub 0 w
+addend _ w = w
+
+-- the instruction that uses a known word, behind one where there is one; the globals stand at these addresses
+abbrev pub using_it : (globals : List ℕ) → Frame → ℕ → Used → Option (Instr Imm) × Instr Imm
+using_it gs F w (Computed o t p) = known F o t p w (added o w)
+using_it gs F w (Loaded t None) = (None, instr.Mov (RegAt t (Left w)))
+using_it gs F w (Loaded t (Some p)) = (brought F p 9, instr.Mov (RegAtOff t (hand p 9) (Left w)))
+using_it gs F w (Indexed t q) = (Some (instr.Two IADD t (src.Reg q)), instr.Mov (RegAtOff t t (Left w)))
+using_it gs F w (Offset t p n) = (brought F p 9, instr.Mov (RegAtOff t (hand p 9) (Left (add w n))))
+using_it gs F w (Element o t p k) = (brought F p 9, instr.Mov (RegAtOff t (hand p 9) (Left (add (addend o w) (get_or gs k 0)))))
+using_it gs F w (Stored None a) = (brought F a 10, instr.Mov (AtReg (Left w) (hand a 10)))
+using_it gs F w (Stored (Some p) a) = (either (brought F p 9) (brought F a 10), instr.Mov (AtOffReg (hand p 9) (Left w) (hand a 10)))
+using_it gs F w (Sent p) = (None, instr.Out (port p) (src.Imm (Left w)))
 
 abbrev pub is_spared : Frame → Option (ℕ × ℕ) → Bool
 is_spared F None = false
 is_spared F (Some (r, w)) = (F.registers == 8) && (r == 8)
 
-abbrev pub with_known : Frame → Option (ℕ × ℕ) → Option (ℕ × Used) → Option (ℕ × Option (Instr Imm) × Instr Imm)
-with_known F (Some (r, w)) (Some (k, u)) = Some (k, (using_it F w u).0, (using_it F w u).1)
-with_known F _ _ = None
+abbrev pub with_known : (globals : List ℕ) → Frame → Option (ℕ × ℕ) → Option (ℕ × Used) → Option (ℕ × Option (Instr Imm) × Instr Imm)
+with_known gs F (Some (r, w)) (Some (k, u)) = Some (k, (using_it gs F w u).0, (using_it gs F w u).1)
+with_known gs F _ _ = None
 
 -- the operations behind a first one, which may put a known word there
-abbrev pub with_more : Frame → Option (ℕ × ℕ) → OpT Where → NodesT Where → Option (ℕ × Option (Instr Imm) × Instr Imm)
-with_more F put p c = cond (is_spared F put) (with_known F put (used_by (Do p c))) (with_word F put p c)
+abbrev pub with_more : (globals : List ℕ) → Frame → Option (ℕ × ℕ) → OpT Where → NodesT Where → Option (ℕ × Option (Instr Imm) × Instr Imm)
+with_more gs F put p c = cond (is_spared F put) (with_known gs F put (used_by (Do p c))) (with_word F put p c)
 
 unfoldable pub in_one : Whole → Frame → OpT Where → NodesT Where → Option (ℕ × Option (Instr Imm) × Instr Imm)
-in_one W F o (Do p c) = with_more F (word_put W o) p c
+in_one W F o (Do p c) = with_more W.globals F (word_put W o) p c
 in_one W F o _ = None
 
 -- the items of an operation, and of those that are done together with it; how many these are
@@ -388,7 +394,7 @@ made_of W F o c = first_made (made_both o (given_first c)) (made_with F (word_pu
 
 abbrev pub made_items : Frame → Made → List AsmItem
 made_items F (Both o a b) = fetches F a 9 ∷ (brings F b 10 ++ item.Op (instr.Two o 9 (src.Reg (hand b 10))) ∷ [])
-made_items F (Known o a w) = before_it (using_it F w (Computed o 9 a)).0 ++ item.Op (using_it F w (Computed o 9 a)).1 ∷ []
+made_items F (Known o a w) = before_it (known F o 9 a w (added o w)).0 ++ item.Op (known F o 9 a w (added o w)).1 ∷ []
 
 -- the items of an operation that comes next, with all that is done with it, and how many nodes behind it are
 abbrev pub made_or : Frame → Option (ℕ × Made) → (other : List AsmItem) → List AsmItem

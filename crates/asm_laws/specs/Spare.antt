@@ -1,14 +1,14 @@
 -- Register 8 holds nothing between operations in a body that only reads it where a known word was just put there: what is done with that word then.
 use Rattle.std.specs.Prelude.{ℕ, zero, suc, ◌≡◌, ◌<◌, ◌⊎◌, ◌==◌, ◌&&◌, not, cond, Bool, true, false, List, [], ◌∷◌, Option, Some, None, option_map}
 use Rattle.v32_isa.specs.declared.instruction.Two.{Two as TwoOf}
-use Rattle.v32_isa.specs.declared.instruction.Two.TheVariants.{IADD}
+use Rattle.v32_isa.specs.declared.instruction.Two.TheVariants.{IADD, ISUB}
 use Rattle.mid_code.specs.declared.placed.Where.{Where}
 use Rattle.mid_code.specs.declared.placed.Where.TheVariants.{Reg, Slot}
 use Rattle.mid_code.specs.Code.{NodesT, Stop, Do, Call, Choose, Block, Loop, Leave, Again, Return}
 use Rattle.mid_code.specs.Code.{OpT, ConstO, TwoO, GlobalO, StepO, LoadO, StoreO, OutO, uses, maybe}
 use Rattle.asm_laws.specs.Pieces.{register, is_in, turned, other_word, loads_there}
 use Rattle.asm_laws.specs.declared.used.Used.{Used}
-use Rattle.asm_laws.specs.declared.used.Used.TheVariants.{Computed, Loaded, Indexed, Offset, Stored, Sent}
+use Rattle.asm_laws.specs.declared.used.Used.TheVariants.{Computed, Loaded, Indexed, Offset, Element, Stored, Sent}
 
 -- ---- up to four operations behind one that puts a known word into register 8
 
@@ -59,21 +59,22 @@ abbrev pub indexed : Where → Option Where → NodesT Where → Option (ℕ × 
 indexed (Reg t) (Some (Reg q)) c = cond (register q == register t) (index_behind (register t) c) None
 indexed _ _ c = None
 
--- A load into register t, at the sum of the word that stands there and a number that is put into register 8 right before.
-abbrev pub offset_load : ℕ → Where → ℕ → NodesT Where → Option (ℕ × Used)
-offset_load t z n (Do (LoadO (Reg d) q) c) = cond ((register d == t) && is_in q 8) (Some (4, Offset t z n)) None
-offset_load t z n _ = None
+-- A load into register t, at the sum of the word that stands there and one that is put into register 8 right before; and what is done in all.
+abbrev pub offset_load : ℕ → Used → NodesT Where → Option (ℕ × Used)
+offset_load t u (Do (LoadO (Reg d) q) c) = cond ((register d == t) && is_in q 8) (Some (4, u)) None
+offset_load t u _ = None
 
-abbrev pub offset_sum : ℕ → Where → ℕ → Where → Option Where → NodesT Where → Option (ℕ × Used)
-offset_sum t z n s (Some (Reg q)) c = cond ((register q == t) && is_in s 8) (offset_load t z n c) None
-offset_sum t z n s _ c = None
+abbrev pub offset_sum : ℕ → Used → Where → Option Where → NodesT Where → Option (ℕ × Used)
+offset_sum t u s (Some (Reg q)) c = cond ((register q == t) && is_in s 8) (offset_load t u c) None
+offset_sum t u s _ c = None
 
-abbrev pub offset_step : ℕ → Where → ℕ → NodesT Where → Option (ℕ × Used)
-offset_step t z n (Do (StepO s p q) c) = offset_sum t z n s (beside p q) c
-offset_step t z n _ = None
+abbrev pub offset_step : ℕ → Used → NodesT Where → Option (ℕ × Used)
+offset_step t u (Do (StepO s p q) c) = offset_sum t u s (beside p q) c
+offset_step t u _ = None
 
+-- a number
 abbrev pub offset_behind : ℕ → Where → NodesT Where → Option (ℕ × Used)
-offset_behind t z (Do (ConstO s n) c) = cond (is_in s 8) (offset_step t z n c) None
+offset_behind t z (Do (ConstO s n) c) = cond (is_in s 8) (offset_step t (Offset t z n) c) None
 offset_behind t z _ = None
 
 -- the same behind a sum of the word of a place and the known one, in that register
@@ -81,13 +82,27 @@ abbrev pub offset : Where → Option Where → NodesT Where → Option (ℕ × U
 offset (Reg t) (Some z) c = offset_behind (register t) z c
 offset _ _ c = None
 
+-- the address of a global, behind what an operator makes there of the word of a place and the known one
+abbrev pub element_behind : TwoOf → ℕ → Where → NodesT Where → Option (ℕ × Used)
+element_behind o t z (Do (GlobalO s k) c) = cond (is_in s 8) (offset_step t (Element o t z k) c) None
+element_behind o t z _ = None
+
+abbrev pub adds : TwoOf → Bool
+adds IADD = true
+adds ISUB = true
+adds _ = false
+
+abbrev pub element : Where → Option (TwoOf × Where) → NodesT Where → Option (ℕ × Used)
+element (Reg t) (Some (o, z)) c = cond (adds o && not (register t == 8)) (element_behind o (register t) z c) None
+element _ _ c = None
+
 abbrev pub or_else : Option (ℕ × Used) → Option (ℕ × Used) → Option (ℕ × Used)
 or_else None y = y
 or_else (Some x) y = Some x
 
 -- what is done with the known word, and by how many operations
 abbrev pub used_by : NodesT Where → Option (ℕ × Used)
-used_by (Do (TwoO o t p q) c) = computed t (operand o p q)
+used_by (Do (TwoO o t p q) c) = or_else (element t (operand o p q) c) (computed t (operand o p q))
 used_by (Do (StepO t p q) c) = cond (is_in t 8) (at_sum (beside p q) c)
     (or_else (indexed t (beside p q) c) (or_else (offset t (beside p q) c) (computed t (operand IADD p q))))
 used_by (Do (OutO port p) c) = cond (is_in p 8) (Some (1, Sent port)) None

@@ -13,6 +13,8 @@ pub enum Used {
     Indexed(Reg, Reg),
     /// A register takes the word at the sum of the known word, that of a place and a number.
     Offset(Reg, Where, u32),
+    /// A register takes the word at the sum of the address of a global and what an operator makes of the word of a place and the known one.
+    Element(Two, Reg, Where, u32),
     /// The word of a place is stored at such an address.
     Stored(Option<Where>, Where),
     /// The known word goes to a port.

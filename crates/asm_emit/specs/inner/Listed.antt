@@ -57,8 +57,8 @@ abbrev pub front_word : Frame → (put : Option (ℕ × ℕ)) → NodesT Where �
 front_word F put (Do o c) = with_word F put o c
 front_word F put _ = None
 
-abbrev pub front_summed : Frame → (put : Option (ℕ × ℕ)) → NodesT Where → Option (ℕ × Option (Instr Imm) × Instr Imm)
-front_summed F put c = cond (is_spared F put) (with_known F put (used_by c)) (front_word F put c)
+abbrev pub front_summed : (globals : List ℕ) → Frame → (put : Option (ℕ × ℕ)) → NodesT Where → Option (ℕ × Option (Instr Imm) × Instr Imm)
+front_summed gs F put c = cond (is_spared F put) (with_known gs F put (used_by c)) (front_word F put c)
 
 abbrev pub ahead_items : Option (ℕ × Option (Instr Imm) × Instr Imm) → List AsmItem
 ahead_items None = []

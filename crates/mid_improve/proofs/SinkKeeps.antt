@@ -1,5 +1,5 @@
--- What the parts of the pass keep that puts known words where they are used.
-use Rattle.std.proofs.Common.{◌≡◌, ℕ, Bool, true, false, cond, List, [], ◌∷◌, ◌++◌, map, Option, Some, None, refl, sym, ap, ◌∙◌, subst}
+-- What the parts of the pass keep that puts addresses and known words where they are used.
+use Rattle.std.proofs.Common.{◌≡◌, ℕ, Bool, true, false, not, cond, List, [], ◌∷◌, ◌++◌, map, Option, Some, None, refl, sym, ap, ◌∙◌, subst}
 use Rattle.obj_mem.specs.declared.cell.Cell.{Cell}
 use Rattle.obj_mem.specs.declared.cell.Cell.TheVariants.{Unwritten}
 use Rattle.obj_mem.specs.Stores.{Sizes, has_room, entered, returned_to}
@@ -10,16 +10,18 @@ use Rattle.mid_code.specs.Meaning.{Did, On, Ends, Next, Over, Lang, did}
 use Rattle.mid_code.specs.States.{State, temporaries, received, cell_of, word_tested, begun, if_room, back, entry_weight, over_worlds, sizes_of, function_at}
 use Rattle.mid_code.specs.inner.Passing.{then_act, acts, Prefix, state_of, did_state, Pass, Like, Kept, CallAlike, DidAlike, TestAlike, Keeps}
 use Rattle.mid_code.proofs.More.{further, act_more, enter_more, back_more}
-use Rattle.mid_improve.specs.inner.Sinking.{is_free, Held, held_ops, is_apart, ops_at, held_behind}
+use Rattle.mid_improve.specs.declared.sinking.Walk.{Walk}
+use Rattle.mid_improve.specs.inner.Sinking.{is_free, Held, held_ops, is_apart, stops, goes_on, ops_alone, held_alone, ops_at, held_behind}
 use Rattle.mid_improve.proofs.SweepKeeps.{test_same}
-use Rattle.mid_improve.proofs.SinkPass.{less_same, less_spend, less_store, held_weight, Agree, spent_agrees, put_agrees, sinking}
+use Rattle.mid_improve.proofs.SinkPass.{less_same, less_spend, less_store, held_weight, Agree, spent_agrees, put_agrees, waits, sinking}
+use Rattle.mid_improve.proofs.Tabled.{both}
 use Rattle.mid_improve.proofs.SinkOps.{none_apart, alike, done, hold}
 
 then_here : (d : Did (State ℕ)) → then_act d (λ s. On s) ≡ d
 then_here (On s) = refl
 then_here (Ends f s) = refl
 
-module _ (x y : CodeT ℕ) (frames : List ℕ) (sizes : sizes_of y frames ≡ sizes_of x frames) (params : (h : ℕ) → (function_at y h).params ≡ (function_at x h).params) where
+module _ (W : Walk) (x y : CodeT ℕ) (frames : List ℕ) (sizes : sizes_of y frames ≡ sizes_of x frames) (params : (h : ℕ) → (function_at y h).params ≡ (function_at x h).params) where
   abbrev L : Lang ℕ
   L = over_worlds temporaries x frames
 
@@ -27,7 +29,7 @@ module _ (x y : CodeT ℕ) (frames : List ℕ) (sizes : sizes_of y frames ≡ si
   L' = over_worlds temporaries y frames
 
   abbrev PP : Pass L L'
-  PP = sinking x y frames
+  PP = sinking W x y frames
 
   abbrev z : Sizes
   z = sizes_of x frames
@@ -74,40 +76,48 @@ module _ (x y : CodeT ℕ) (frames : List ℕ) (sizes : sizes_of y frames ≡ si
   -- an operation, and behind it the one that was held back
   late : (f : Option ℕ) (p o : OpT ℕ) (t : State ℕ) (d : Did (State ℕ)) → DidAlike PP f (Some p) d (acts L' (o ∷ []) t) → DidAlike PP f None d (acts L' (o ∷ p ∷ []) t)
   late f p o t (On s) k =
-      let e = done x y frames sizes p s k.0 k.2 in
+      let e = done W x y frames sizes p s k.0 k.2 in
       (e.0, go (L'.act o t) k.1 e.1, e.2)
     where
-      go : (d' : Did (State ℕ)) → then_act d' (λ u. On u) ≡ On k.0 → (L'.act p k.0 ≡ On (done x y frames sizes p s k.0 k.2).0) → then_act d' (λ u. then_act (L'.act p u) (λ v. On v)) ≡ On (done x y frames sizes p s k.0 k.2).0
-      go (On u) q r = (let w : u ≡ k.0 = cc in subst (λ v. then_act (L'.act p v) (λ a. On a) ≡ On (done x y frames sizes p s k.0 k.2).0) (sym w) (then_here (L'.act p k.0) ∙ r))
+      go : (d' : Did (State ℕ)) → then_act d' (λ u. On u) ≡ On k.0 → (L'.act p k.0 ≡ On (done W x y frames sizes p s k.0 k.2).0) → then_act d' (λ u. then_act (L'.act p u) (λ v. On v)) ≡ On (done W x y frames sizes p s k.0 k.2).0
+      go (On u) q r = (let w : u ≡ k.0 = cc in subst (λ v. then_act (L'.act p v) (λ a. On a) ≡ On (done W x y frames sizes p s k.0 k.2).0) (sym w) (then_here (L'.act p k.0) ∙ r))
       go (Ends g u) q r = absurd cc
   late f p o t (Ends e s) k = late_kept p e s t (L'.act o t) k
 
-  -- the one that was held back, and behind it an operation
-  before : (f : Option ℕ) (p o : OpT ℕ) (s t : State ℕ) → Agree (Some p) s t → DidAlike PP f None (L.act o s) (acts L' (p ∷ o ∷ []) t)
-  before f p o s t A =
-      let e = done x y frames sizes p s t A in
-      subst (λ d. DidAlike PP f None (L.act o s) (then_act d (acts L' (o ∷ [])))) (sym e.1) (alike x y frames sizes f None s e.0 e.2 o (none_apart o))
+  -- where none is held back before it
+  abbrev Anew : Held → Option ℕ → OpT ℕ → Bool → State ℕ → State ℕ → Type 0
+  Anew b f o l s t = DidAlike PP f (cond l None (held_alone W b o)) (L.act o s) (acts L' (ops_alone W b o ++ cond l (held_ops (held_alone W b o)) []) t)
 
-  held_free : (f : Option ℕ) (o : OpT ℕ) (s t : State ℕ) (b l : Bool) → is_free o ≡ b → Agree None s t → DidAlike PP f (cond l None (cond b (Some o) None)) (L.act o s) (acts L' (cond b [] (o ∷ []) ++ cond l (held_ops (cond b (Some o) None)) []) t)
-  held_free f o s t true true e A = alike x y frames sizes f None s t A o (none_apart o)
-  held_free f o s t true false e A = hold x y frames sizes f o s t e A
-  held_free f o s t false true e A = alike x y frames sizes f None s t A o (none_apart o)
-  held_free f o s t false false e A = alike x y frames sizes f None s t A o (none_apart o)
+  held_free : (h : Held) (f : Option ℕ) (o : OpT ℕ) (s t : State ℕ) (b l : Bool) → is_free W h o ≡ b → Agree None s t → DidAlike PP f (cond l None (cond b (Some o) None)) (L.act o s) (acts L' (cond b [] (o ∷ []) ++ cond l (held_ops (cond b (Some o) None)) []) t)
+  held_free h f o s t true true e A = alike W x y frames sizes f None s t A o (none_apart o)
+  held_free h f o s t true false e A = hold W x y frames sizes f o s t (waits W h o e) A
+  held_free h f o s t false true e A = alike W x y frames sizes f None s t A o (none_apart o)
+  held_free h f o s t false false e A = alike W x y frames sizes f None s t A o (none_apart o)
 
-  held_on : (f : Option ℕ) (p o : OpT ℕ) (s t : State ℕ) (b l : Bool) → is_apart (Some p) o ≡ b → Agree (Some p) s t → DidAlike PP f (cond l None (cond b (Some p) None)) (L.act o s) (acts L' (cond b (o ∷ []) (p ∷ o ∷ []) ++ cond l (held_ops (cond b (Some p) None)) []) t)
-  held_on f p o s t true true e A = late f p o t (L.act o s) (alike x y frames sizes f (Some p) s t A o e)
-  held_on f p o s t true false e A = alike x y frames sizes f (Some p) s t A o e
-  held_on f p o s t false true e A = before f p o s t A
-  held_on f p o s t false false e A = before f p o s t A
+  anew : (b : Held) (f : Option ℕ) (o : OpT ℕ) (s t : State ℕ) (l : Bool) → Agree None s t → Anew b f o l s t
+  anew b f o s t l A = held_free b f o s t (is_free W b o) l refl A
 
-  each : (f : Option ℕ) (h : Held) (o : OpT ℕ) (s t : State ℕ) (l : Bool) → Agree h s t → DidAlike PP f (cond l None (held_behind h o)) (L.act o s) (acts L' (ops_at h o ++ cond l (held_ops (held_behind h o)) []) t)
-  each f None o s t l A = held_free f o s t (is_free o) l refl A
-  each f (Some p) o s t l A = held_on f p o s t (is_apart (Some p) o) l refl A
+  -- the one that was held back is done, and then what is done at an operation
+  before : (f : Option ℕ) (p o : OpT ℕ) (s t : State ℕ) (l : Bool) → Agree (Some p) s t
+      → DidAlike PP f (cond l None (held_alone W (Some p) o)) (L.act o s) (acts L' (p ∷ (ops_alone W (Some p) o ++ cond l (held_ops (held_alone W (Some p) o)) [])) t)
+  before f p o s t l A =
+      let e = done W x y frames sizes p s t A in
+      subst (λ d. DidAlike PP f (cond l None (held_alone W (Some p) o)) (L.act o s) (then_act d (acts L' (ops_alone W (Some p) o ++ cond l (held_ops (held_alone W (Some p) o)) [])))) (sym e.1) (anew (Some p) f o s e.0 l e.2)
+
+  held_on : (f : Option ℕ) (p o : OpT ℕ) (s t : State ℕ) (b l : Bool) → goes_on W (Some p) o ≡ b → Agree (Some p) s t
+      → DidAlike PP f (cond l None (cond b (Some p) (held_alone W (Some p) o))) (L.act o s) (acts L' (cond b (o ∷ []) (p ∷ ops_alone W (Some p) o) ++ cond l (held_ops (cond b (Some p) (held_alone W (Some p) o))) []) t)
+  held_on f p o s t true true e A = late f p o t (L.act o s) (alike W x y frames sizes f (Some p) s t A o (both (is_apart (Some p) o) (not (stops W (Some p) o)) e).0)
+  held_on f p o s t true false e A = alike W x y frames sizes f (Some p) s t A o (both (is_apart (Some p) o) (not (stops W (Some p) o)) e).0
+  held_on f p o s t false l e A = before f p o s t l A
+
+  each : (f : Option ℕ) (h : Held) (o : OpT ℕ) (s t : State ℕ) (l : Bool) → Agree h s t → DidAlike PP f (cond l None (held_behind W h o)) (L.act o s) (acts L' (ops_at W h o ++ cond l (held_ops (held_behind W h o)) []) t)
+  each f None o s t l A = anew None f o s t l A
+  each f (Some p) o s t l A = held_on f p o s t (goes_on W (Some p) o) l refl A
 
   op_kept : (f : Option ℕ) (h k : Held) (o : OpT ℕ) (ps : List (OpT ℕ)) (s t : State ℕ) → PP.op f h o ps k → Agree h s t → DidAlike PP f k (L.act o s) (acts L' ps t)
   op_kept f h k o ps s t c A =
       subst (λ j. DidAlike PP f j (L.act o s) (acts L' ps t)) (sym c.2)
-      (subst (λ qs. DidAlike PP f (cond c.0 None (held_behind h o)) (L.act o s) (acts L' qs t)) (sym c.1) (each f h o s t c.0 A))
+      (subst (λ qs. DidAlike PP f (cond c.0 None (held_behind W h o)) (L.act o s) (acts L' qs t)) (sym c.1) (each f h o s t c.0 A))
 
   -- ---- calls
 

@@ -1,9 +1,10 @@
--- Nodes with known words where they are used are like the nodes.
+-- Nodes that a walk has gone through are like the nodes.
 use Rattle.std.proofs.Common.{◌≡◌, ℕ, zero, suc, ◌<◌, Bool, true, false, cond, List, [], ◌∷◌, ◌++◌, length, Option, None, refl, ap, ◌∙◌, subst, arith}
 use Rattle.mid_code.specs.Code.{OpT, NodesT, Stop, Do, Call, Choose, Block, Loop, Leave, Again, Return, CodeT}
 use Rattle.mid_code.specs.Invariants.{IsLoop, AreNodes}
 use Rattle.mid_code.specs.States.{temporaries, over_worlds}
 use Rattle.mid_code.specs.inner.Passing.{doing, Pass, Points, end_at, begin_at, Like}
+use Rattle.mid_improve.specs.declared.sinking.Walk.{Walk}
 use Rattle.mid_improve.specs.inner.Sinking.{Held, held_ops, ops_at, held_behind, sunk}
 use Rattle.mid_improve.proofs.SinkPass.{sinking}
 
@@ -56,40 +57,40 @@ doing_both : (ps qs : List (OpT ℕ)) (c : NodesT ℕ) → doing ps (doing qs c)
 doing_both [] qs c = refl
 doing_both (p ∷ ps) qs c = ap (Do p) (doing_both ps qs c)
 
-apart : (c : NodesT ℕ) (h : Held) → sunk h c ≡ doing (cond (is_end c) (held_ops h) []) (sunk (still c h) c)
-apart Stop h = refl
-apart (Do o c) h = refl
-apart (Call t f args c) h = refl
-apart (Choose p a b c) h = refl
-apart (Block b c) h = refl
-apart (Loop b c) h = refl
-apart (Leave k c) h = refl
-apart (Again k c) h = refl
-apart (Return p c) h = refl
+apart : (W : Walk) (c : NodesT ℕ) (h : Held) → sunk W h c ≡ doing (cond (is_end c) (held_ops h) []) (sunk W (still c h) c)
+apart W Stop h = refl
+apart W (Do o c) h = refl
+apart W (Call t f args c) h = refl
+apart W (Choose p a b c) h = refl
+apart W (Block b c) h = refl
+apart W (Loop b c) h = refl
+apart W (Leave k c) h = refl
+apart W (Again k c) h = refl
+apart W (Return p c) h = refl
 
-module _ (x y : CodeT ℕ) (frames : List ℕ) where
+module _ (W : Walk) (x y : CodeT ℕ) (frames : List ℕ) where
   abbrev PP : Pass (over_worlds temporaries x frames) (over_worlds temporaries y frames)
-  PP = sinking x y frames
+  PP = sinking W x y frames
 
   module _ (m : ℕ) (f : Option ℕ) where
     -- from a beginning where nothing is held
-    begun : (bs : List Bool) (c : NodesT ℕ) → Like PP f (points bs) (still c None) c (sunk (still c None) c) None → Like PP f (points bs) None c (sunk None c) None
-    begun bs c l = subst (λ i. Like PP f (points bs) i c (sunk i c) None) (still_none c) l
+    begun : (bs : List Bool) (c : NodesT ℕ) → Like PP f (points bs) (still c None) c (sunk W (still c None) c) None → Like PP f (points bs) None c (sunk W None c) None
+    begun bs c l = subst (λ i. Like PP f (points bs) i c (sunk W i c) None) (still_none c) l
 
-    like_from : (bs : List Bool) (c : NodesT ℕ) (h : Held) → AreNodes x m bs c → Like PP f (points bs) (still c h) c (sunk (still c h) c) None
+    like_from : (bs : List Bool) (c : NodesT ℕ) (h : Held) → AreNodes x m bs c → Like PP f (points bs) (still c h) c (sunk W (still c h) c) None
     like_from bs Stop h n = (refl, refl)
     like_from bs (Do o c) h n =
-        let k = held_behind h o in
+        let k = held_behind W h o in
         let l = is_end c in
-        (ops_at h o ++ cond l (held_ops k) [], sunk (still c k) c, still c k, ap (doing (ops_at h o)) (apart c k) ∙ doing_both (ops_at h o) (cond l (held_ops k) []) (sunk (still c k) c), (l, refl, still_cond l k), like_from bs c k n.1)
-    like_from bs (Call t g args c) h n = (t, args, sunk None c, None, refl, refl, (refl, refl, refl, refl), begun bs c (like_from bs c None n.1))
+        (ops_at W h o ++ cond l (held_ops k) [], sunk W (still c k) c, still c k, ap (doing (ops_at W h o)) (apart W c k) ∙ doing_both (ops_at W h o) (cond l (held_ops k) []) (sunk W (still c k) c), (l, refl, still_cond l k), like_from bs c k n.1)
+    like_from bs (Call t g args c) h n = (t, args, sunk W None c, None, refl, refl, (refl, refl, refl, refl), begun bs c (like_from bs c None n.1))
     like_from bs (Choose p a b c) h n =
-        (p, sunk None a, sunk None b, sunk None c, None, refl, (refl, refl), None, None, refl, refl, begun bs a (like_from bs a None n.0), begun bs b (like_from bs b None n.1), begun bs c (like_from bs c None n.2))
-    like_from bs (Block b c) h n = (sunk None b, sunk None c, None, None, refl, begun (false ∷ bs) b (like_from (false ∷ bs) b None n.0), begun bs c (like_from bs c None n.1))
-    like_from bs (Loop b c) h n = (sunk None b, sunk None c, None, None, refl, refl, begun (true ∷ bs) b (like_from (true ∷ bs) b None n.0), begun bs c (like_from bs c None n.1))
-    like_from bs (Leave k c) h n = (sunk None c, None, refl, end_in bs k n.0, refl)
-    like_from bs (Again k c) h n = (sunk None c, None, refl, begin_in bs k n.0, refl)
-    like_from bs (Return p c) h n = (p, sunk None c, refl, (refl, refl))
+        (p, sunk W None a, sunk W None b, sunk W None c, None, refl, (refl, refl), None, None, refl, refl, begun bs a (like_from bs a None n.0), begun bs b (like_from bs b None n.1), begun bs c (like_from bs c None n.2))
+    like_from bs (Block b c) h n = (sunk W None b, sunk W None c, None, None, refl, begun (false ∷ bs) b (like_from (false ∷ bs) b None n.0), begun bs c (like_from bs c None n.1))
+    like_from bs (Loop b c) h n = (sunk W None b, sunk W None c, None, None, refl, refl, begun (true ∷ bs) b (like_from (true ∷ bs) b None n.0), begun bs c (like_from bs c None n.1))
+    like_from bs (Leave k c) h n = (sunk W None c, None, refl, end_in bs k n.0, refl)
+    like_from bs (Again k c) h n = (sunk W None c, None, refl, begin_in bs k n.0, refl)
+    like_from bs (Return p c) h n = (p, sunk W None c, refl, (refl, refl))
 
-    pub like : (c : NodesT ℕ) → AreNodes x m [] c → Like PP f [] None c (sunk None c) None
+    pub like : (c : NodesT ℕ) → AreNodes x m [] c → Like PP f [] None c (sunk W None c) None
     like c n = begun [] c (like_from [] c None n)

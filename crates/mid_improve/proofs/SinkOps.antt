@@ -16,11 +16,12 @@ use Rattle.mid_code.specs.Meaning.{Did, On, Ends, Lang}
 use Rattle.mid_code.specs.States.{State, temporaries, put, put_in, one_word, two_words, stepped, distance, pointers_tested, to, in_world, to_objects, input, output, spent, over_worlds, sizes_of}
 use Rattle.mid_code.specs.inner.Passing.{acts, Prefix, Pass, DidAlike}
 use Rattle.mid_code.proofs.More.{all_of}
-use Rattle.mid_improve.specs.inner.Sinking.{is_free, Held, hides, is_apart}
+use Rattle.mid_improve.specs.declared.sinking.Walk.{Walk}
+use Rattle.mid_improve.specs.inner.Sinking.{Held, hides, fixes, is_apart}
 use Rattle.mid_improve.proofs.Tabled.{both}
 use Rattle.mid_improve.proofs.SweepPass.{SameWorlds, put_off}
 use Rattle.mid_improve.proofs.SweepOps.{then_on}
-use Rattle.mid_improve.proofs.SinkPass.{LessWorlds, put_on, less_same, less_spend, less_store, less_happened, held_weight, Holds, Agree, world_agrees, spent_agrees, put_agrees, sinking}
+use Rattle.mid_improve.proofs.SinkPass.{LessWorlds, put_on, less_same, less_spend, less_store, less_happened, held_weight, Holds, Agree, world_agrees, spent_agrees, put_agrees, Waits, sinking}
 
 off : (x : Bool) → not x ≡ true → x ≡ false
 off true e = absurd (false≢true e)
@@ -31,10 +32,20 @@ all_there : (qs : List ℕ) → list_all (λ q. not (hides None q)) qs ≡ true
 all_there [] = refl
 all_there (q ∷ qs) = all_there qs
 
-pub none_apart : (o : OpT ℕ) → is_apart None o ≡ true
-none_apart o = λ i. all_there (uses o) i && all_there (maybe (target o)) i
+all_open : (qs : List ℕ) → list_all (λ q. not (fixes None q)) qs ≡ true
+all_open [] = refl
+all_open (q ∷ qs) = all_open qs
 
-module _ (x y : CodeT ℕ) (frames : List ℕ) (sizes : sizes_of y frames ≡ sizes_of x frames) where
+pub none_apart : (o : OpT ℕ) → is_apart None o ≡ true
+none_apart o = λ i. all_there (uses o) i && all_open (maybe (target o)) i
+
+-- an address is made or the run strays
+no_fault : (c d : Cell) (m : ℕ) → stepped c d ≡ Err (Faults m) → ⊥
+no_fault (Ptr o i) (Num n) m e = cc
+no_fault _ (Num n) m e = cc
+no_fault _ _ m e = cc
+
+module _ (W : Walk) (x y : CodeT ℕ) (frames : List ℕ) (sizes : sizes_of y frames ≡ sizes_of x frames) where
   abbrev L : Lang ℕ
   L = over_worlds temporaries x frames
 
@@ -42,7 +53,7 @@ module _ (x y : CodeT ℕ) (frames : List ℕ) (sizes : sizes_of y frames ≡ si
   L' = over_worlds temporaries y frames
 
   abbrev PP : Pass L L'
-  PP = sinking x y frames
+  PP = sinking W x y frames
 
   abbrev z : Sizes
   z = sizes_of x frames
@@ -67,15 +78,15 @@ module _ (x y : CodeT ℕ) (frames : List ℕ) (sizes : sizes_of y frames ≡ si
     one o d d' e k = subst (Goes d) (sym (then_on (L'.act o t) ∙ e)) k
 
     -- a target takes what is answered
-    answer : (q n : ℕ) (a : Answer Cell) → hides h q ≡ false → Goes (to temporaries q a (spent n s)) (to temporaries q a (spent n t))
+    answer : (q n : ℕ) (a : Answer Cell) → fixes h q ≡ false → Goes (to temporaries q a (spent n s)) (to temporaries q a (spent n t))
     answer q n (Ok c) o = (put_in temporaries q c (spent n t), refl, put_agrees h (spent n s) (spent n t) (spent_agrees h s t A n) q c c o refl)
     answer q n (Err Strays) o = same_events
     answer q n (Err (Faults m)) o = (spent n t, refl, spent_same n)
 
-    takes_it : (q : ℕ) (o : OpT ℕ) (a b : Answer Cell) → list_all (λ q. not (hides h q)) (q ∷ []) ≡ true → a ≡ b → L'.act o t ≡ to temporaries q b (spent 8 t) → Goes (to temporaries q a (spent 8 s)) (acts L' (o ∷ []) t)
+    takes_it : (q : ℕ) (o : OpT ℕ) (a b : Answer Cell) → list_all (λ q. not (fixes h q)) (q ∷ []) ≡ true → a ≡ b → L'.act o t ≡ to temporaries q b (spent 8 t) → Goes (to temporaries q a (spent 8 s)) (acts L' (o ∷ []) t)
     takes_it q o a b there e k =
         one o (to temporaries q a (spent 8 s)) (to temporaries q b (spent 8 t)) k
-        (subst (λ c. Goes (to temporaries q a (spent 8 s)) (to temporaries q c (spent 8 t))) e (answer q 8 a (off (hides h q) (both (not (hides h q)) true there).0)))
+        (subst (λ c. Goes (to temporaries q a (spent 8 s)) (to temporaries q c (spent 8 t))) e (answer q 8 a (off (fixes h q) (both (not (fixes h q)) true there).0)))
 
     world_goes : (v w : World) → LessWorlds (held_weight h) v w → Goes (On (in_world v s)) (On (in_world w t))
     world_goes v w k = (in_world w t, refl, world_agrees h s t A v w k)
@@ -88,7 +99,7 @@ module _ (x y : CodeT ℕ) (frames : List ℕ) (sizes : sizes_of y frames ≡ si
     objects : (a b : Answer (List ObjectT)) → a ≡ b → Goes (to_objects a (spent 8 s)) (to_objects b (spent 8 t))
     objects a b e = subst (λ c. Goes (to_objects a (spent 8 s)) (to_objects c (spent 8 t))) e (object a)
 
-    asked : (q port : ℕ) (words : List ℕ) → hides h q ≡ false → Goes (input temporaries q port words (spent 8 s)) (input temporaries q port words (spent 8 t))
+    asked : (q port : ℕ) (words : List ℕ) → fixes h q ≡ false → Goes (input temporaries q port words (spent 8 s)) (input temporaries q port words (spent 8 t))
     asked q port [] o = (spent 8 t, refl, spent_same 8)
     asked q port (a ∷ words) o =
         let v = answered port a words (spend 8 s.world) in
@@ -113,13 +124,16 @@ module _ (x y : CodeT ℕ) (frames : List ℕ) (sizes : sizes_of y frames ≡ si
     abbrev There : List ℕ → Type 0
     There qs = list_all (λ q. not (hides h q)) qs ≡ true
 
+    abbrev Open : List ℕ → Type 0
+    Open qs = list_all (λ q. not (fixes h q)) qs ≡ true
+
     first : (a : ℕ) (qs : List ℕ) → There (a ∷ qs) → s.cells a ≡ t.cells a
     first a qs e = A.cells a (off (hides h a) (both (not (hides h a)) (list_all (λ q. not (hides h q)) qs) e).0)
 
     second : (a b : ℕ) → There (a ∷ b ∷ []) → s.cells b ≡ t.cells b
     second a b e = first b [] (both (not (hides h a)) (list_all (λ q. not (hides h q)) (b ∷ [])) e).1
 
-    does : (o : OpT ℕ) → There (uses o) → There (maybe (target o)) → Goes (L.act o s) (acts L' (o ∷ []) t)
+    does : (o : OpT ℕ) → There (uses o) → Open (maybe (target o)) → Goes (L.act o s) (acts L' (o ∷ []) t)
     does (ConstO q n) u v = takes_it q (ConstO q n) (Ok (Num n)) (Ok (Num n)) v refl refl
     does (NullO q) u v = takes_it q (NullO q) (Ok Null) (Ok Null) v refl refl
     does (MoveO q a) u v = takes_it q (MoveO q a) (Ok (s.cells a)) (Ok (t.cells a)) v (ap Ok (first a [] u)) refl
@@ -136,14 +150,14 @@ module _ (x y : CodeT ℕ) (frames : List ℕ) (sizes : sizes_of y frames ≡ si
     does (StoreO p a) u v = let c = first p (a ∷ []) u in let d = second p a u in let e = sym same_objects in one (StoreO p a) (to_objects (write xs (s.cells p) (s.cells a)) (spent 8 s)) (to_objects (write ys (t.cells p) (t.cells a)) (spent 8 t)) refl (objects (write xs (s.cells p) (s.cells a)) (write ys (t.cells p) (t.cells a)) (λ j. write (e j) (c j) (d j)))
     does (FreshO n) u v = one (FreshO n) (On (in_world (on_store (fresh z n) (spend 0 s.world)) s)) (On (in_world (on_store (fresh z' n) (spend 0 t.world)) t)) refl (world_goes (on_store (fresh z n) (spend 0 s.world)) (on_store (fresh z' n) (spend 0 t.world)) (less_store (held_weight h) (spend 0 s.world) (spend 0 t.world) (fresh z n) (fresh z' n) (sym (ap (λ u. fresh u n) sizes)) (spent_less 0)))
     does (EndO n) u v = one (EndO n) (On (in_world (on_store (end_one n) (spend 0 s.world)) s)) (On (in_world (on_store (end_one n) (spend 0 t.world)) t)) refl (world_goes (on_store (end_one n) (spend 0 s.world)) (on_store (end_one n) (spend 0 t.world)) (less_store (held_weight h) (spend 0 s.world) (spend 0 t.world) (end_one n) (end_one n) refl (spent_less 0)))
-    does (InO q port) u v = one (InO q port) (input temporaries q port s.world.store.answers (spent 8 s)) (input temporaries q port s.world.store.answers (spent 8 t)) (ap (λ u. input temporaries q port u.answers (spent 8 t)) A.worlds.store) (asked q port s.world.store.answers (off (hides h q) (both (not (hides h q)) true v).0))
+    does (InO q port) u v = one (InO q port) (input temporaries q port s.world.store.answers (spent 8 s)) (input temporaries q port s.world.store.answers (spent 8 t)) (ap (λ u. input temporaries q port u.answers (spent 8 t)) A.worlds.store) (asked q port s.world.store.answers (off (fixes h q) (both (not (fixes h q)) true v).0))
     does (OutO port a) u v = one (OutO port a) (output port (word_of (s.cells a)) (spent 8 s)) (output port (word_of (s.cells a)) (spent 8 t)) (ap (λ c. output port (word_of c) (spent 8 t)) (sym (first a [] u))) (put_out port (word_of (s.cells a)))
     does WaitO u v = one WaitO (On (in_world (happened event.Wait (spend 8 s.world)) s)) (On (in_world (happened event.Wait (spend 8 t.world)) t)) refl (world_goes (happened event.Wait (spend 8 s.world)) (happened event.Wait (spend 8 t.world)) (less_happened (held_weight h) (spend 8 s.world) (spend 8 t.world) event.Wait (spent_less 8)))
     does HaltO u v = one HaltO (Ends Halted (spent 8 s)) (Ends Halted (spent 8 t)) refl (spent 8 t, refl, spent_same 8)
 
     -- an operation that is apart from the one held back
     pub alike : (o : OpT ℕ) → is_apart h o ≡ true → Goes (L.act o s) (acts L' (o ∷ []) t)
-    alike o e = let b = both (list_all (λ q. not (hides h q)) (uses o)) (list_all (λ q. not (hides h q)) (maybe (target o))) e in does o b.0 b.1
+    alike o e = let b = both (list_all (λ q. not (hides h q)) (uses o)) (list_all (λ q. not (fixes h q)) (maybe (target o))) e in does o b.0 b.1
 
   -- ---- an operation is held back, and done
 
@@ -165,6 +179,12 @@ module _ (x y : CodeT ℕ) (frames : List ℕ) (sizes : sizes_of y frames ≡ si
   pub done : (p : OpT ℕ) (s t : State ℕ) → Agree (Some p) s t → Done p s t
   done (ConstO q n) s t A = (put_in temporaries q (Num n) (spent 8 t), refl, done_by s t q (Num n) A.worlds A.given (λ r n. A.cells r n) A.held)
   done (GlobalO q n) s t A = (put_in temporaries q (Ptr n 0) (spent 8 t), refl, done_by s t q (Ptr n 0) A.worlds A.given (λ r n. A.cells r n) A.held)
+  done (StepO q p n) s t A =
+      let k = A.held in
+      let pointer = sym (A.cells p k.0) in
+      let words = sym (A.cells n k.1) in
+      let made : stepped (t.cells p) (t.cells n) ≡ Ok (s.cells q) = (λ i. stepped (pointer i) (words i)) ∙ k.2 in
+      (put_in temporaries q (s.cells q) (spent 8 t), ap (λ a. to temporaries q a (spent 8 t)) made, done_by s t q (s.cells q) A.worlds A.given (λ r n. A.cells r n) refl)
   done _ s t A = absurd A.held
 
   -- it is held back
@@ -176,24 +196,16 @@ module _ (x y : CodeT ℕ) (frames : List ℕ) (sizes : sizes_of y frames ≡ si
     held = k (put_on s.cells q c);
   }
 
-  pub hold : (f : Option ℕ) (o : OpT ℕ) (s t : State ℕ) → is_free o ≡ true → Agree None s t → DidAlike PP f (Some o) (L.act o s) (On t)
+  -- an address is held back where it is made; where the run strays the second one may go on
+  hold_made : (f : Option ℕ) (s t : State ℕ) (q p n : ℕ) → eqb p q ≡ false → eqb n q ≡ false → Agree None s t → (a : Answer Cell) → stepped (s.cells p) (s.cells n) ≡ a
+      → DidAlike PP f (Some (StepO q p n)) (to temporaries q a (spent 8 s)) (On t)
+  hold_made f s t q p n u v A (Ok c) e =
+      (t, refl, hold_by s t q c (Some (StepO q p n)) refl (λ r m. m) (λ m. (u, v, (λ i. stepped (put_off s.cells q c p u i) (put_off s.cells q c n v i)) ∙ e ∙ ap Ok (sym m))) A)
+  hold_made f s t q p n u v A (Err Strays) e = same_events f None s t A
+  hold_made f s t q p n u v A (Err (Faults m)) e = absurd (no_fault (s.cells p) (s.cells n) m e)
+
+  pub hold : (f : Option ℕ) (o : OpT ℕ) (s t : State ℕ) → Waits o → Agree None s t → DidAlike PP f (Some o) (L.act o s) (On t)
   hold f (ConstO q n) s t e A = (t, refl, hold_by s t q (Num n) (Some (ConstO q n)) refl (λ r m. m) (λ m. m) A)
   hold f (GlobalO q n) s t e A = (t, refl, hold_by s t q (Ptr n 0) (Some (GlobalO q n)) refl (λ r m. m) (λ m. m) A)
-  hold f (NullO q) s t e A = absurd (false≢true e)
-  hold f (MoveO q a) s t e A = absurd (false≢true e)
-  hold f (OneO o q a) s t e A = absurd (false≢true e)
-  hold f (TwoO o q a b) s t e A = absurd (false≢true e)
-  hold f (LocalO q n) s t e A = absurd (false≢true e)
-  hold f (LiteralO q n) s t e A = absurd (false≢true e)
-  hold f (CardO q) s t e A = absurd (false≢true e)
-  hold f (StepO q a b) s t e A = absurd (false≢true e)
-  hold f (ApartO q a b) s t e A = absurd (false≢true e)
-  hold f (PtrTestO o q a b) s t e A = absurd (false≢true e)
-  hold f (LoadO q p) s t e A = absurd (false≢true e)
-  hold f (StoreO p a) s t e A = absurd (false≢true e)
-  hold f (FreshO n) s t e A = absurd (false≢true e)
-  hold f (EndO n) s t e A = absurd (false≢true e)
-  hold f (InO q port) s t e A = absurd (false≢true e)
-  hold f (OutO port a) s t e A = absurd (false≢true e)
-  hold f WaitO s t e A = absurd (false≢true e)
-  hold f HaltO s t e A = absurd (false≢true e)
+  hold f (StepO q p n) s t e A = hold_made f s t q p n e.0 e.1 A (stepped (s.cells p) (s.cells n)) refl
+  hold f _ s t e A = absurd e

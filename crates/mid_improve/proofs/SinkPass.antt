@@ -1,15 +1,18 @@
--- The pass that puts known words where they are used: how states are alike while an operation is held back.
-use Rattle.std.proofs.Common.{◌≡◌, ℕ, ◌+◌, ◌≤◌, Bool, true, false, cond, eqb, List, [], ◌∷◌, ◌++◌, Option, Some, None, refl, sym, ap, ◌∙◌, arith}
-use Rattle.std.proofs.lemmas.Bool.{true≢false, eqb-true, eq-eqb}
+-- The pass that puts addresses and known words where they are used: how states are alike while an operation is held back.
+use Rattle.std.proofs.Common.{◌≡◌, ℕ, ◌+◌, ◌≤◌, Bool, true, false, not, ◌&&◌, ◌||◌, cond, eqb, List, [], ◌∷◌, ◌++◌, Option, Some, None, Ok, refl, sym, ap, ◌∙◌, arith}
+use Rattle.std.proofs.lemmas.Bool.{true≢false, false≢true, eqb-true, eq-eqb}
 use Rattle.kit_base.specs.declared.event.Event.{Event}
 use Rattle.obj_mem.specs.declared.cell.Cell.{Cell}
 use Rattle.obj_mem.specs.declared.cell.Cell.TheVariants.{Num, Ptr}
 use Rattle.obj_mem.specs.Stores.{Store}
 use Rattle.obj_mem.specs.Worlds.{World, on_store, spend, happened}
-use Rattle.mid_code.specs.Code.{ConstO, GlobalO, CodeT}
-use Rattle.mid_code.specs.States.{State, temporaries, put, put_in, in_world, spent, over_worlds}
+use Rattle.mid_code.specs.Code.{OpT, ConstO, GlobalO, StepO, CodeT}
+use Rattle.mid_code.specs.States.{State, temporaries, put, put_in, stepped, in_world, spent, over_worlds}
 use Rattle.mid_code.specs.inner.Passing.{Pass}
-use Rattle.mid_improve.specs.inner.Sinking.{Held, held_ops, hides, ops_at, held_behind}
+use Rattle.mid_improve.specs.declared.sinking.Walk.{Walk}
+use Rattle.mid_improve.specs.declared.sinking.Walk.TheVariants as walk
+use Rattle.mid_improve.specs.inner.Sinking.{is_free, Held, held_ops, hides, fixes, ops_at, held_behind}
+use Rattle.mid_improve.proofs.Tabled.{both}
 use Rattle.mid_improve.proofs.SweepPass.{SameWorlds, put_off}
 
 -- ---- worlds
@@ -51,11 +54,12 @@ abbrev pub held_weight : Held → ℕ
 held_weight None = 0
 held_weight (Some p) = 8
 
--- the temporary holds what the operation that is held back puts there
+-- the temporary holds what the operation that is held back puts there; an address is made of two others
 abbrev pub Holds : Held → (ℕ → Cell) → Type 0
 Holds None a = Unit {0}
 Holds (Some (ConstO t word)) a = a t ≡ Num word
 Holds (Some (GlobalO t number)) a = a t ≡ Ptr number 0
+Holds (Some (StepO t p n)) a = (eqb p t ≡ false) × (eqb n t ≡ false) × (stepped (a p) (a n) ≡ Ok (a t))
 Holds (Some p) a = ⊥
 
 pub record Agree (h : Held) (s t : State ℕ) : Type 0 where
@@ -71,10 +75,21 @@ eqb_off a b e = go (eqb b a) refl
     go true f = absurd (true≢false (sym (eq-eqb a b (sym (eqb-true b a f))) ∙ e))
     go false f = f
 
-holds_put : (h : Held) (a : ℕ → Cell) (q : ℕ) (c : Cell) → hides h q ≡ false → Holds h a → Holds h (put temporaries a q c)
+-- neither of two
+pub neither : (x y : Bool) → (x || y) ≡ false → (x ≡ false) × (y ≡ false)
+neither true y e = absurd (true≢false e)
+neither false y e = (refl, e)
+
+holds_put : (h : Held) (a : ℕ → Cell) (q : ℕ) (c : Cell) → fixes h q ≡ false → Holds h a → Holds h (put temporaries a q c)
 holds_put None a q c e k = tt
 holds_put (Some (ConstO t word)) a q c e k = put_off a q c t (eqb_off q t e) ∙ k
 holds_put (Some (GlobalO t number)) a q c e k = put_off a q c t (eqb_off q t e) ∙ k
+holds_put (Some (StepO t p n)) a q c e k =
+    let all = neither (eqb q t) (eqb q p || eqb q n) e in
+    let two = neither (eqb q p) (eqb q n) all.1 in
+    let pointer = put_off a q c p (eqb_off q p two.0) in
+    let words = put_off a q c n (eqb_off q n two.1) in
+    (k.0, k.1, (λ i. stepped (pointer i) (words i)) ∙ k.2 ∙ ap Ok (sym (put_off a q c t (eqb_off q t all.0))))
 holds_put (Some _) a q c e k = absurd k
 
 module _ (h : Held) (s t : State ℕ) (a : Agree h s t) where
@@ -84,8 +99,8 @@ module _ (h : Held) (s t : State ℕ) (a : Agree h s t) where
   pub spent_agrees : (n : ℕ) → Agree h (spent n s) (spent n t)
   spent_agrees n = world_agrees (spend n s.world) (spend n t.world) (less_spend (held_weight h) s.world t.world n a.worlds)
 
-  -- another temporary takes the same cell
-  pub put_agrees : (q : ℕ) (c d : Cell) → hides h q ≡ false → c ≡ d → Agree h (put_in temporaries q c s) (put_in temporaries q d t)
+  -- a temporary that need not keep its cell takes the same one
+  pub put_agrees : (q : ℕ) (c d : Cell) → fixes h q ≡ false → c ≡ d → Agree h (put_in temporaries q c s) (put_in temporaries q d t)
   put_agrees q c d off e = record {
     worlds = a.worlds;
     given = a.given;
@@ -93,10 +108,34 @@ module _ (h : Held) (s t : State ℕ) (a : Agree h s t) where
     held = holds_put h s.cells q c off a.held;
   }
 
+-- ---- what may be held back
+
+abbrev pub Waits : OpT ℕ → Type 0
+Waits (ConstO t word) = Unit {0}
+Waits (GlobalO t number) = Unit {0}
+Waits (StepO t p n) = (eqb p t ≡ false) × (eqb n t ≡ false)
+Waits _ = ⊥
+
+both_off : (x y : Bool) → (not x && not y) ≡ true → (x ≡ false) × (y ≡ false)
+both_off true y e = absurd (false≢true e)
+both_off false true e = absurd (false≢true e)
+both_off false false e = (refl, refl)
+
+-- what a walk holds back may be
+pub waits : (w : Walk) (h : Held) (o : OpT ℕ) → is_free w h o ≡ true → Waits o
+waits walk.Addresses None (GlobalO t number) e = tt
+waits walk.Addresses (Some (GlobalO g number)) (StepO t p n) e = both_off (eqb p t) (eqb n t) (both (eqb p g) (not (eqb p t) && not (eqb n t)) e).1
+waits walk.Words h (ConstO t word) e = tt
+waits walk.Words h (GlobalO t number) e = tt
+waits walk.Globals h (GlobalO t number) e = tt
+waits walk.Addresses _ _ e = absurd (false≢true e)
+waits walk.Words _ _ e = absurd (false≢true e)
+waits walk.Globals _ _ e = absurd (false≢true e)
+
 -- ---- the pass
 
-abbrev pub sinking : (x y : CodeT ℕ) → (frames : List ℕ) → Pass (over_worlds temporaries x frames) (over_worlds temporaries y frames)
-sinking x y frames = record {
+abbrev pub sinking : Walk → (x y : CodeT ℕ) → (frames : List ℕ) → Pass (over_worlds temporaries x frames) (over_worlds temporaries y frames)
+sinking w x y frames = record {
   K = Option ℕ;
   I = Held;
   fn = λ f. f;
@@ -111,7 +150,7 @@ sinking x y frames = record {
   ev' = λ t. t.world.events;
   weaker = λ i j. i ≡ j;
   -- what is held back behind the operation may be done at once
-  op = λ f h o ps k. (late : Bool) × (ps ≡ ops_at h o ++ cond late (held_ops (held_behind h o)) []) × (k ≡ cond late None (held_behind h o));
+  op = λ f h o ps k. (late : Bool) × (ps ≡ ops_at w h o ++ cond late (held_ops (held_behind w h o)) []) × (k ≡ cond late None (held_behind w h o));
   test = λ f h a b. (b ≡ a) × (h ≡ None);
   giving = λ f h a b. (b ≡ a) × (h ≡ None);
   call = λ f h t g args u brgs k. (u ≡ t) × (brgs ≡ args) × (h ≡ None) × (k ≡ None);

@@ -8,20 +8,21 @@ use Rattle.mid_code.specs.declared.node.Op.TheVariants as op
 use Rattle.mid_code.specs.declared.node.Node.{Node}
 use Rattle.mid_code.specs.Code.{OpT}
 use Rattle.mid_code.specs.Functions.{NodeT, DoN, ChooseN, BlockN, LoopN, LeaveN, AgainN, ReturnN, listed, node}
-use Rattle.mid_improve.specs.inner.Sinking.{Held, is_free, is_apart}
+use Rattle.mid_improve.specs.declared.sinking.Walk.{Walk}
+use Rattle.mid_improve.specs.inner.Sinking.{Held, is_free, goes_on, held_alone}
 use Rattle.mid_improve.specs.inner.SinkListed.{op_of, plain_op, node_op, held_nodes, passes, nodes_at, held_at, node_sunk, list_sunk}
 
 -- the nodes now: those that are done, the one that is held back, and those that are still to come
-pub record Sunk (h : Held) (i : ℕ) (now rest all : List (Node ℕ)) : Type 0 where
+pub record Sunk (W : Walk) (h : Held) (i : ℕ) (now rest all : List (Node ℕ)) : Type 0 where
   pub done : List (Node ℕ)
   pub last : List (Node ℕ)
   pub is : now ≡ (done ++ last) ++ rest
   pub holds : map node last ≡ held_nodes h
   pub len : length (done ++ last) ≡ i
-  pub gives : map node done ++ list_sunk h (listed (map node rest)) ≡ list_sunk None (listed (map node all))
+  pub gives : map node done ++ list_sunk W h (listed (map node rest)) ≡ list_sunk W None (listed (map node all))
 
-pub sunk_none : (all : List (Node ℕ)) → Sunk None 0 all all all
-sunk_none all = record { done = []; last = []; is = refl; holds = refl; len = refl; gives = refl }
+pub sunk_none : (W : Walk) (all : List (Node ℕ)) → Sunk W None 0 all all all
+sunk_none W all = record { done = []; last = []; is = refl; holds = refl; len = refl; gives = refl }
 
 -- an operation in memory by what it is as plain data
 abbrev op_in : Option (OpT ℕ) → Op ℕ → Op ℕ
@@ -62,13 +63,13 @@ more_done : (done more : List (Node ℕ)) (zs ws : List (NodeT ℕ)) → map nod
 more_done done more zs ws e = ap (λ u. u ++ zs) (map-append node done more) ∙ append_assoc (map node done) (map node more) zs ∙ e
 
 -- what is known of the nodes before one is passed
-abbrev Gives : List (Node ℕ) → Held → Option (OpT ℕ) → Node ℕ → List (Node ℕ) → List (Node ℕ) → Type 0
-Gives done h o r tail all = map node done ++ (nodes_at h o (node r) ++ list_sunk (held_at h o) (listed (map node tail))) ≡ list_sunk None (listed (map node all))
+abbrev Gives : Walk → List (Node ℕ) → Held → Option (OpT ℕ) → Node ℕ → List (Node ℕ) → List (Node ℕ) → Type 0
+Gives W done h o r tail all = map node done ++ (nodes_at W h o (node r) ++ list_sunk W (held_at W h o) (listed (map node tail))) ≡ list_sunk W None (listed (map node all))
 
 -- nothing is held back before it
-alone : (b : Bool) (q : OpT ℕ) (i : ℕ) (done tail all ns : List (Node ℕ)) (r : Node ℕ) → node r ≡ DoN (op_of q) → length done ≡ i → ns ≡ done ++ r ∷ tail
-    → map node done ++ (cond b [] (node r ∷ []) ++ list_sunk (cond b (Some q) None) (listed (map node tail))) ≡ list_sunk None (listed (map node all)) → Sunk (cond b (Some q) None) (i + 1) ns tail all
-alone true q i done tail all ns r x len is gives = record {
+alone : (W : Walk) (b : Bool) (q : OpT ℕ) (i : ℕ) (done tail all ns : List (Node ℕ)) (r : Node ℕ) → node r ≡ DoN (op_of q) → length done ≡ i → ns ≡ done ++ r ∷ tail
+    → map node done ++ (cond b [] (node r ∷ []) ++ list_sunk W (cond b (Some q) None) (listed (map node tail))) ≡ list_sunk W None (listed (map node all)) → Sunk W (cond b (Some q) None) (i + 1) ns tail all
+alone W true q i done tail all ns r x len is gives = record {
   done = done;
   last = r ∷ [];
   is = is ∙ sym (append_assoc done (r ∷ []) tail);
@@ -76,7 +77,7 @@ alone true q i done tail all ns r x len is gives = record {
   len = length-append done (r ∷ []) ∙ ap (λ n. n + 1) len;
   gives = gives;
 }
-alone false q i done tail all ns r x len is gives = record {
+alone W false q i done tail all ns r x len is gives = record {
   done = done ++ r ∷ [];
   last = [];
   is = is ∙ sym (append_assoc done (r ∷ []) tail) ∙ ap (λ u. u ++ tail) (sym (append-nil (done ++ r ∷ [])));
@@ -85,11 +86,42 @@ alone false q i done tail all ns r x len is gives = record {
   gives = more_done done (r ∷ []) _ _ gives;
 }
 
--- one is
-beside : (b : Bool) (p : OpT ℕ) (i : ℕ) (done tail all ns ms : List (Node ℕ)) (a r : Node ℕ) → node a ≡ DoN (op_of p) → length done + 1 ≡ i → ns ≡ done ++ a ∷ r ∷ tail → ms ≡ cond b (swap ns (i - 1) i) ns
-    → map node done ++ (cond b (node r ∷ []) (DoN (op_of p) ∷ node r ∷ []) ++ list_sunk (cond b (Some p) None) (listed (map node tail))) ≡ list_sunk None (listed (map node all))
-    → Sunk (cond b (Some p) None) (i + 1) ms tail all
-beside true p i done tail all ns ms a r x len is e gives = record {
+-- what stands for a node before which none is held any more, and what is held back behind it
+abbrev nodes_anew : Walk → Held → Option (OpT ℕ) → NodeT ℕ → List (NodeT ℕ)
+nodes_anew W h None x = x ∷ []
+nodes_anew W h (Some q) x = cond (is_free W h q) [] (x ∷ [])
+
+abbrev held_anew : Walk → Held → Option (OpT ℕ) → Held
+held_anew W h None = None
+held_anew W h (Some q) = held_alone W h q
+
+anew : (W : Walk) (h : Held) (o : Option (OpT ℕ)) (i : ℕ) (done tail all ns : List (Node ℕ)) (r : Node ℕ) → node_op (node r) ≡ o → length done ≡ i → ns ≡ done ++ r ∷ tail
+    → map node done ++ (nodes_anew W h o (node r) ++ list_sunk W (held_anew W h o) (listed (map node tail))) ≡ list_sunk W None (listed (map node all)) → Sunk W (held_anew W h o) (i + 1) ns tail all
+anew W h None i done tail all ns r x len is gives = record {
+  done = done ++ r ∷ [];
+  last = [];
+  is = is ∙ sym (append_assoc done (r ∷ []) tail) ∙ ap (λ u. u ++ tail) (sym (append-nil (done ++ r ∷ [])));
+  holds = refl;
+  len = ap length (append-nil (done ++ r ∷ [])) ∙ length-append done (r ∷ []) ∙ ap (λ n. n + 1) len;
+  gives = more_done done (r ∷ []) _ _ gives;
+}
+anew W h (Some q) i done tail all ns r x len is gives = alone W (is_free W h q) q i done tail all ns r (node_again (node r) q x) len is gives
+
+-- one is, and is done
+behind : (W : Walk) (p : OpT ℕ) (o : Option (OpT ℕ)) (i : ℕ) (done tail all ns : List (Node ℕ)) (a r : Node ℕ) → node_op (node r) ≡ o → node a ≡ DoN (op_of p) → length done + 1 ≡ i
+    → ns ≡ done ++ a ∷ r ∷ tail
+    → map node done ++ (DoN (op_of p) ∷ (nodes_anew W (Some p) o (node r) ++ list_sunk W (held_anew W (Some p) o) (listed (map node tail)))) ≡ list_sunk W None (listed (map node all))
+    → Sunk W (held_anew W (Some p) o) (i + 1) ns tail all
+behind W p o i done tail all ns a r e x len is gives =
+    anew W (Some p) o i (done ++ a ∷ []) tail all ns r e (length-append done (a ∷ []) ∙ len) (is ∙ sym (append_assoc done (a ∷ []) (r ∷ tail)))
+    (more_done done (a ∷ []) _ _ (ap (λ y. map node done ++ (y ∷ (nodes_anew W (Some p) o (node r) ++ list_sunk W (held_anew W (Some p) o) (listed (map node tail))))) x ∙ gives))
+
+-- one is, and an operation comes
+beside : (W : Walk) (b : Bool) (p q : OpT ℕ) (i : ℕ) (done tail all ns ms : List (Node ℕ)) (a r : Node ℕ) → node_op (node r) ≡ Some q → node a ≡ DoN (op_of p) → length done + 1 ≡ i
+    → ns ≡ done ++ a ∷ r ∷ tail → ms ≡ cond b (swap ns (i - 1) i) ns
+    → map node done ++ (cond b (node r ∷ []) (DoN (op_of p) ∷ cond (is_free W (Some p) q) [] (node r ∷ [])) ++ list_sunk W (cond b (Some p) (held_alone W (Some p) q)) (listed (map node tail))) ≡ list_sunk W None (listed (map node all))
+    → Sunk W (cond b (Some p) (held_alone W (Some p) q)) (i + 1) ms tail all
+beside W true p q i done tail all ns ms a r o x len is e gives = record {
   done = done ++ r ∷ [];
   last = a ∷ [];
   is = e ∙ ap (λ u. swap u (i - 1) i) is ∙ swap_at done tail a r i len ∙ sym (append_assoc done (r ∷ []) (a ∷ tail)) ∙ sym (append_assoc (done ++ r ∷ []) (a ∷ []) tail);
@@ -97,74 +129,61 @@ beside true p i done tail all ns ms a r x len is e gives = record {
   len = length-append (done ++ r ∷ []) (a ∷ []) ∙ ap (λ n. n + 1) (length-append done (r ∷ []) ∙ len);
   gives = more_done done (r ∷ []) _ _ gives;
 }
-beside false p i done tail all ns ms a r x len is e gives = record {
-  done = done ++ a ∷ r ∷ [];
-  last = [];
-  is = e ∙ is ∙ sym (append_assoc done (a ∷ r ∷ []) tail) ∙ ap (λ u. u ++ tail) (sym (append-nil (done ++ a ∷ r ∷ [])));
-  holds = refl;
-  len = ap length (append-nil (done ++ a ∷ r ∷ [])) ∙ length-append done (a ∷ r ∷ []) ∙ omega (arith, len);
-  gives = more_done done (a ∷ r ∷ []) _ _ (ap (λ y. map node done ++ (y ∷ node r ∷ list_sunk None (listed (map node tail)))) x ∙ gives);
-}
+beside W false p q i done tail all ns ms a r o x len is e gives = behind W p (Some q) i done tail all ms a r o x len (e ∙ is) gives
 
-after : (h : Held) (o : Option (OpT ℕ)) (i : ℕ) (done last tail all ns ms : List (Node ℕ)) (r : Node ℕ) → node_op (node r) ≡ o → map node last ≡ held_nodes h → length (done ++ last) ≡ i
-    → ns ≡ (done ++ last) ++ r ∷ tail → ms ≡ cond (passes h o) (swap ns (i - 1) i) ns → Gives done h o r tail all → Sunk (held_at h o) (i + 1) ms tail all
-after None None i done [] tail all ns ms r x holds len is e gives = record {
-  done = done ++ r ∷ [];
-  last = [];
-  is = e ∙ is ∙ ap (λ u. u ++ r ∷ tail) (append-nil done) ∙ sym (append_assoc done (r ∷ []) tail) ∙ ap (λ u. u ++ tail) (sym (append-nil (done ++ r ∷ [])));
-  holds = refl;
-  len = ap length (append-nil (done ++ r ∷ [])) ∙ length-append done (r ∷ []) ∙ ap (λ n. n + 1) (sym (ap length (append-nil done)) ∙ len);
-  gives = more_done done (r ∷ []) _ _ gives;
-}
-after None (Some q) i done [] tail all ns ms r x holds len is e gives =
-    alone (is_free q) q i done tail all ms r (node_again (node r) q x) (sym (ap length (append-nil done)) ∙ len) (e ∙ is ∙ ap (λ u. u ++ r ∷ tail) (append-nil done)) gives
-after None o i done (a ∷ as') tail all ns ms r x holds len is e gives = cc
-after (Some p) o i done [] tail all ns ms r x holds len is e gives = cc
-after (Some p) None i done (a ∷ []) tail all ns ms r x holds len is e gives =
-    beside false p i done tail all ns ms a r (cc) (sym (length-append done (a ∷ [])) ∙ len) (is ∙ append_assoc done (a ∷ []) (r ∷ tail)) e gives
-after (Some p) (Some q) i done (a ∷ []) tail all ns ms r x holds len is e gives =
-    beside (is_apart (Some p) q) p i done tail all ns ms a r (cc) (sym (length-append done (a ∷ [])) ∙ len) (is ∙ append_assoc done (a ∷ []) (r ∷ tail)) e gives
-after (Some p) o i done (a ∷ b ∷ as') tail all ns ms r x holds len is e gives = cc
+after : (W : Walk) (h : Held) (o : Option (OpT ℕ)) (i : ℕ) (done last tail all ns ms : List (Node ℕ)) (r : Node ℕ) → node_op (node r) ≡ o → map node last ≡ held_nodes h → length (done ++ last) ≡ i
+    → ns ≡ (done ++ last) ++ r ∷ tail → ms ≡ cond (passes W h o) (swap ns (i - 1) i) ns → Gives W done h o r tail all → Sunk W (held_at W h o) (i + 1) ms tail all
+after W None None i done [] tail all ns ms r x holds len is e gives =
+    anew W None None i done tail all ms r x (sym (ap length (append-nil done)) ∙ len) (e ∙ is ∙ ap (λ u. u ++ r ∷ tail) (append-nil done)) gives
+after W None (Some q) i done [] tail all ns ms r x holds len is e gives =
+    anew W None (Some q) i done tail all ms r x (sym (ap length (append-nil done)) ∙ len) (e ∙ is ∙ ap (λ u. u ++ r ∷ tail) (append-nil done)) gives
+after W None o i done (a ∷ as') tail all ns ms r x holds len is e gives = cc
+after W (Some p) o i done [] tail all ns ms r x holds len is e gives = cc
+after W (Some p) None i done (a ∷ []) tail all ns ms r x holds len is e gives =
+    behind W p None i done tail all ms a r x (cc) (sym (length-append done (a ∷ [])) ∙ len) (e ∙ is ∙ append_assoc done (a ∷ []) (r ∷ tail)) gives
+after W (Some p) (Some q) i done (a ∷ []) tail all ns ms r x holds len is e gives =
+    beside W (goes_on W (Some p) q) p q i done tail all ns ms a r x (cc) (sym (length-append done (a ∷ [])) ∙ len) (is ∙ append_assoc done (a ∷ []) (r ∷ tail)) e gives
+after W (Some p) o i done (a ∷ b ∷ as') tail all ns ms r x holds len is e gives = cc
 
 -- one node more
-pub sunk_more : (h k : Held) (i : ℕ) (now tail all ns ms : List (Node ℕ)) (x r : Node ℕ) → Sunk h i now (x ∷ tail) all → ns ≡ set now i r → node r ≡ node_sunk (node x) → node_op (node r) ≡ node_op (node x)
-    → ms ≡ cond (passes h (node_op (node r))) (swap ns (i - 1) i) ns → k ≡ held_at h (node_op (node r)) → Sunk k (i + 1) ms tail all
-sunk_more h k i now tail all ns ms x r s put inside same e kept =
+pub sunk_more : (W : Walk) (h k : Held) (i : ℕ) (now tail all ns ms : List (Node ℕ)) (x r : Node ℕ) → Sunk W h i now (x ∷ tail) all → ns ≡ set now i r → node r ≡ node_sunk W (node x) → node_op (node r) ≡ node_op (node x)
+    → ms ≡ cond (passes W h (node_op (node r))) (swap ns (i - 1) i) ns → k ≡ held_at W h (node_op (node r)) → Sunk W k (i + 1) ms tail all
+sunk_more W h k i now tail all ns ms x r s put inside same e kept =
     let is : ns ≡ (s.done ++ s.last) ++ r ∷ tail = put ∙ ap (λ u. set u i r) s.is ∙ set_at (s.done ++ s.last) x tail r i s.len in
-    let gives : Gives s.done h (node_op (node r)) r tail all =
-    (λ j. map node s.done ++ (nodes_at h (same j) (inside j) ++ list_sunk (held_at h (same j)) (listed (map node tail)))) ∙ s.gives in
-    subst (λ u. Sunk u (i + 1) ms tail all) (sym kept) (after h (node_op (node r)) i s.done s.last tail all ns ms r refl s.holds s.len is e gives)
+    let gives : Gives W s.done h (node_op (node r)) r tail all =
+    (λ j. map node s.done ++ (nodes_at W h (same j) (inside j) ++ list_sunk W (held_at W h (same j)) (listed (map node tail)))) ∙ s.gives in
+    subst (λ u. Sunk W u (i + 1) ms tail all) (sym kept) (after W h (node_op (node r)) i s.done s.last tail all ns ms r refl s.holds s.len is e gives)
 
 -- where one is held back, there is a node before
-pub sunk_before : (h : Held) (i : ℕ) (p : OpT ℕ) (now rest all : List (Node ℕ)) → Sunk h i now rest all → h ≡ Some p → 0 < i
-sunk_before h i p now rest all s e = go s.last (s.holds ∙ ap held_nodes e) s.len
+pub sunk_before : (W : Walk) (h : Held) (i : ℕ) (p : OpT ℕ) (now rest all : List (Node ℕ)) → Sunk W h i now rest all → h ≡ Some p → 0 < i
+sunk_before W h i p now rest all s e = go s.last (s.holds ∙ ap held_nodes e) s.len
   where
     go : (last : List (Node ℕ)) → map node last ≡ held_nodes (Some p) → length (s.done ++ last) ≡ i → 0 < i
     go [] m l = cc
     go (a ∷ as') m l = omega (arith, l, length-append s.done (a ∷ as'))
 
 -- all of them
-pub sunk_all : (h : Held) (i : ℕ) (now all : List (Node ℕ)) → Sunk h i now [] all → map node now ≡ list_sunk None (listed (map node all))
-sunk_all h i now all s =
+pub sunk_all : (W : Walk) (h : Held) (i : ℕ) (now all : List (Node ℕ)) → Sunk W h i now [] all → map node now ≡ list_sunk W None (listed (map node all))
+sunk_all W h i now all s =
     ap (map node) (s.is ∙ append-nil (s.done ++ s.last)) ∙ map-append node s.done s.last ∙ ap (λ u. map node s.done ++ u) s.holds ∙ s.gives
 
 -- as many as there were, and those that are still to come as they were
-pub sunk_len : (h : Held) (i : ℕ) (now all : List (Node ℕ)) → Sunk h i now (drop i all) all → i ≤ length all → length now ≡ length all
-sunk_len h i now all s below =
+pub sunk_len : (W : Walk) (h : Held) (i : ℕ) (now all : List (Node ℕ)) → Sunk W h i now (drop i all) all → i ≤ length all → length now ≡ length all
+sunk_len W h i now all s below =
     let whole : length now ≡ length (s.done ++ s.last) + length (drop i all) = ap length s.is ∙ length-append (s.done ++ s.last) (drop i all) in
     omega (arith, whole, s.len, length-drop i all, below)
 
-pub sunk_rest : (h : Held) (i : ℕ) (now all : List (Node ℕ)) → Sunk h i now (drop i all) all → (k : ℕ) (d : Node ℕ) → i ≤ k → get_or now k d ≡ get_or all k d
-sunk_rest h i now all s k d le =
+pub sunk_rest : (W : Walk) (h : Held) (i : ℕ) (now all : List (Node ℕ)) → Sunk W h i now (drop i all) all → (k : ℕ) (d : Node ℕ) → i ≤ k → get_or now k d ≡ get_or all k d
+sunk_rest W h i now all s k d le =
     ap (λ u. get_or u k d) s.is ∙ get_or-append_right (s.done ++ s.last) (drop i all) i k d s.len le ∙ get_or-drop i all (k - i) d ∙ ap (λ n. get_or all n d) (omega (arith, le))
 
 -- a turn of the loop
-pub sunk_turn : (h k : Held) (i : ℕ) (now all ns ms : List (Node ℕ)) (x r : Node ℕ) → Sunk h i now (drop i all) all → i < length all → x ≡ get_or now i x → ns ≡ set now i r
-    → node r ≡ node_sunk (node x) → node_op (node r) ≡ node_op (node x) → ((d : Node ℕ) → ms ≡ cond (passes h (node_op (node (get_or ns i d)))) (swap ns (i - 1) i) ns)
-    → ((d : Node ℕ) → k ≡ held_at h (node_op (node (get_or ns i d)))) → Sunk k (i + 1) ms (drop (i + 1) all) all
-sunk_turn h k i now all ns ms x r s below read put inside same e kept =
-    let first : drop i all ≡ x ∷ drop (i + 1) all = drop_more all i x below ∙ ap (λ y. y ∷ drop (i + 1) all) (sym (read ∙ sunk_rest h i now all s i x (omega arith))) in
-    let len : i < length now = omega (arith, below, sunk_len h i now all s (omega (arith, below))) in
+pub sunk_turn : (W : Walk) (h k : Held) (i : ℕ) (now all ns ms : List (Node ℕ)) (x r : Node ℕ) → Sunk W h i now (drop i all) all → i < length all → x ≡ get_or now i x → ns ≡ set now i r
+    → node r ≡ node_sunk W (node x) → node_op (node r) ≡ node_op (node x) → ((d : Node ℕ) → ms ≡ cond (passes W h (node_op (node (get_or ns i d)))) (swap ns (i - 1) i) ns)
+    → ((d : Node ℕ) → k ≡ held_at W h (node_op (node (get_or ns i d)))) → Sunk W k (i + 1) ms (drop (i + 1) all) all
+sunk_turn W h k i now all ns ms x r s below read put inside same e kept =
+    let first : drop i all ≡ x ∷ drop (i + 1) all = drop_more all i x below ∙ ap (λ y. y ∷ drop (i + 1) all) (sym (read ∙ sunk_rest W h i now all s i x (omega arith))) in
+    let len : i < length now = omega (arith, below, sunk_len W h i now all s (omega (arith, below))) in
     let there : get_or ns i x ≡ r = ap (λ u. get_or u i x) put ∙ get_or-set_same now i r x len in
-    sunk_more h k i now (drop (i + 1) all) all ns ms x r (subst (λ u. Sunk h i now u all) first s) put inside same
-    (e x ∙ ap (λ y. cond (passes h (node_op (node y))) (swap ns (i - 1) i) ns) there) (kept x ∙ ap (λ y. held_at h (node_op (node y))) there)
+    sunk_more W h k i now (drop (i + 1) all) all ns ms x r (subst (λ u. Sunk W h i now u all) first s) put inside same
+    (e x ∙ ap (λ y. cond (passes W h (node_op (node y))) (swap ns (i - 1) i) ns) there) (kept x ∙ ap (λ y. held_at W h (node_op (node y))) there)

@@ -1,4 +1,4 @@
--- The pass over a whole program: code with known words where they are used keeps the runs, and does no more work.
+-- The pass over a whole program: code that a walk has gone through keeps the runs, and does no more work.
 use Rattle.std.proofs.Common.{◌≡◌, ℕ, zero, suc, ◌+◌, List, [], ◌∷◌, length, sum, get_or, Option, Some, None, refl, sym, ap, subst, arith}
 use Rattle.obj_mem.specs.Runs.{opening_world, opening_store}
 use Rattle.mid_code.specs.Code.{FunctionT, CodeT}
@@ -9,25 +9,26 @@ use Rattle.mid_code.specs.Keeps.{KeepsRuns, WorksAtMost}
 use Rattle.mid_code.specs.inner.Passing.{Pass, Like}
 use Rattle.mid_code.specs.inner.Programs.{Program}
 use Rattle.mid_code.proofs.Programs.{program_keeps, program_works}
+use Rattle.mid_improve.specs.declared.sinking.Walk.{Walk}
 use Rattle.mid_improve.specs.inner.Sinking.{sunk_function, AreSunk, IsSunkCode}
 use Rattle.mid_improve.proofs.SweepProgram.{worlds_ended, nodes_at}
 use Rattle.mid_improve.proofs.SinkPass.{LessWorlds, sinking}
 use Rattle.mid_improve.proofs.SinkKeeps.{keeps}
 use Rattle.mid_improve.proofs.SinkLike.{like}
 
-sunk_at : (fs gs : List (FunctionT ℕ)) → AreSunk fs gs → (h : ℕ) → get_or gs h no_function ≡ sunk_function (get_or fs h no_function)
-sunk_at [] [] a h = refl
-sunk_at [] (g ∷ gs) a h = absurd a
-sunk_at (f ∷ fs) [] a h = absurd a
-sunk_at (f ∷ fs) (g ∷ gs) a zero = a.0
-sunk_at (f ∷ fs) (g ∷ gs) a (suc h) = sunk_at fs gs a.1 h
+sunk_at : (W : Walk) (fs gs : List (FunctionT ℕ)) → AreSunk W fs gs → (h : ℕ) → get_or gs h no_function ≡ sunk_function W (get_or fs h no_function)
+sunk_at W [] [] a h = refl
+sunk_at W [] (g ∷ gs) a h = absurd a
+sunk_at W (f ∷ fs) [] a h = absurd a
+sunk_at W (f ∷ fs) (g ∷ gs) a zero = a.0
+sunk_at W (f ∷ fs) (g ∷ gs) a (suc h) = sunk_at W fs gs a.1 h
 
-module _ (x y : CodeT ℕ) (mid : IsMid x) (S : IsSunkCode x y) (frames : List ℕ) where
+module _ (W : Walk) (x y : CodeT ℕ) (mid : IsMid x) (S : IsSunkCode W x y) (frames : List ℕ) where
   abbrev PP : Pass (over_worlds temporaries x frames) (over_worlds temporaries y frames)
-  PP = sinking x y frames
+  PP = sinking W x y frames
 
-  functions : (h : ℕ) → function_at y h ≡ sunk_function (function_at x h)
-  functions = sunk_at x.functions y.functions S.functions
+  functions : (h : ℕ) → function_at y h ≡ sunk_function W (function_at x h)
+  functions = sunk_at W x.functions y.functions S.functions
 
   sizes : sizes_of y frames ≡ sizes_of x frames
   sizes =
@@ -40,10 +41,10 @@ module _ (x y : CodeT ℕ) (mid : IsMid x) (S : IsSunkCode x y) (frames : List �
   nodes = nodes_at x x.functions mid.functions
 
   body_like : (h : ℕ) → Like PP (Some h) [] None (function_at x h).body (function_at y h).body None
-  body_like h = let n = nodes h in subst (λ f. Like PP (Some h) [] None (function_at x h).body f.body None) (sym (functions h)) (like x y frames n.0 (Some h) (function_at x h).body n.1)
+  body_like h = let n = nodes h in subst (λ f. Like PP (Some h) [] None (function_at x h).body f.body None) (sym (functions h)) (like W x y frames n.0 (Some h) (function_at x h).body n.1)
 
   start_like : Like PP None [] None x.start.body y.start.body None
-  start_like = subst (λ f. Like PP None [] None x.start.body f.body None) (sym S.start) (like x y frames (length x.start.locals) None x.start.body mid.start.function.nodes)
+  start_like = subst (λ f. Like PP None [] None x.start.body f.body None) (sym S.start) (like W x y frames (length x.start.locals) None x.start.body mid.start.function.nodes)
 
   opened : (answers : List ℕ) (card : Option (List ℕ)) → LessWorlds 0 (opening_world x.globals x.literals answers card) (opening_world y.globals y.literals answers card)
   opened answers card = record {
@@ -54,7 +55,7 @@ module _ (x y : CodeT ℕ) (mid : IsMid x) (S : IsSunkCode x y) (frames : List �
 
   program : Program temporaries temporaries x y frames frames PP
   program = record {
-    keeps = keeps x y frames sizes (λ h. ap (λ f. f.params) (functions h)) body_like;
+    keeps = keeps W x y frames sizes (λ h. ap (λ f. f.params) (functions h)) body_like;
     ev = λ s. refl;
     ev' = λ t. refl;
     globals = ap length S.globals;

@@ -14,8 +14,8 @@ use mid_code::Mid;
 use mid_fold::{fold_words, reuse_results};
 use std::alloc::Global;
 
-/// The code with its known words worked out, and where they are used, with results that stand in a temporary already used again, with targets where they are
-/// moved at once, in which no operand in a run is a copy.
+/// The code with its known words worked out, with results that stand in a temporary already used again, with addresses and known words where they are used,
+/// with targets where they are moved at once, in which no operand in a run is a copy.
 fn fold_and_forward(alloc: Global, m: Mid) -> Result<Mid, Memory>
     ensures { IfOk result (λ r. IsForwarded (mid m) (mid r)) }
 {

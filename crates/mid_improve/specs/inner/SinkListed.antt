@@ -7,32 +7,43 @@ use Rattle.mid_code.specs.Code.{InO, OutO, WaitO, HaltO}
 use Rattle.mid_code.specs.Functions.{NodeT, DoN, ChooseN, BlockN, LoopN, LeaveN, AgainN, ReturnN, ListT, NoN, MoreN, listed}
 use Rattle.mid_improve.specs.declared.sinking.Free.{Free}
 use Rattle.mid_improve.specs.declared.sinking.Free.TheVariants as free
-use Rattle.mid_improve.specs.inner.Sinking.{Held, is_free, is_apart, held_behind}
+use Rattle.mid_improve.specs.declared.sinking.Walk.{Walk}
+use Rattle.mid_improve.specs.inner.Sinking.{Held, is_free, is_apart, stops, goes_on, held_behind}
 
 -- ---- what is held back
 
 abbrev pub free_op : Free → OpT ℕ
 free_op (free.Const t word) = ConstO t word
 free_op (free.Global t number) = GlobalO t number
+free_op (free.Step t p n) = StepO t p n
 
 abbrev pub held_of : Option Free → Held
 held_of None = None
 held_of (Some f) = Some (free_op f)
 
--- the operation, where it can be held back
-abbrev pub free_in : Option (OpT ℕ) → Held
-free_in None = None
-free_in (Some o) = cond (is_free o) (Some o) None
+-- the operation, where a walk holds it back
+abbrev pub free_in : Walk → Held → Option (OpT ℕ) → Held
+free_in w h None = None
+free_in w h (Some o) = cond (is_free w h o) (Some o) None
 
--- an operation that does not touch what is held back
+-- an operation that is apart from what is held back
 abbrev pub apart_in : OpT ℕ → Option (OpT ℕ) → Bool
 apart_in p None = false
 apart_in p (Some o) = is_apart (Some p) o
 
+-- that it is held behind still
+abbrev pub goes_in : Walk → OpT ℕ → Option (OpT ℕ) → Bool
+goes_in w p None = false
+goes_in w p (Some o) = goes_on w (Some p) o
+
+abbrev pub stops_in : Walk → OpT ℕ → Option (OpT ℕ) → Bool
+stops_in w p None = false
+stops_in w p (Some o) = stops w (Some p) o
+
 -- what is held back goes behind the operation
-abbrev pub passes : Held → Option (OpT ℕ) → Bool
-passes None o = false
-passes (Some p) o = apart_in p o
+abbrev pub passes : Walk → Held → Option (OpT ℕ) → Bool
+passes w None o = false
+passes w (Some p) o = goes_in w p o
 
 -- ---- operations and nodes
 
@@ -96,26 +107,26 @@ held_nodes None = []
 held_nodes (Some p) = DoN (op_of p) ∷ []
 
 -- what stands for a node, and what is held back behind it
-abbrev pub nodes_at : Held → Option (OpT ℕ) → NodeT ℕ → List (NodeT ℕ)
-nodes_at h None x = held_nodes h ++ x ∷ []
-nodes_at None (Some o) x = cond (is_free o) [] (x ∷ [])
-nodes_at (Some p) (Some o) x = cond (is_apart (Some p) o) (x ∷ []) (DoN (op_of p) ∷ x ∷ [])
+abbrev pub nodes_at : Walk → Held → Option (OpT ℕ) → NodeT ℕ → List (NodeT ℕ)
+nodes_at w h None x = held_nodes h ++ x ∷ []
+nodes_at w None (Some o) x = cond (is_free w None o) [] (x ∷ [])
+nodes_at w (Some p) (Some o) x = cond (goes_on w (Some p) o) (x ∷ []) (DoN (op_of p) ∷ cond (is_free w (Some p) o) [] (x ∷ []))
 
-abbrev pub held_at : Held → Option (OpT ℕ) → Held
-held_at h None = None
-held_at h (Some o) = held_behind h o
+abbrev pub held_at : Walk → Held → Option (OpT ℕ) → Held
+held_at w h None = None
+held_at w h (Some o) = held_behind w h o
 
--- nodes whose words stand where they are used, inside of them too
+-- nodes that a walk has gone through, inside of them too
 abbrev mutual
-  pub node_sunk : NodeT ℕ → NodeT ℕ
-  node_sunk (DoN o) = DoN o
-  node_sunk (ChooseN p a b) = ChooseN p (listed (list_sunk None a)) (listed (list_sunk None b))
-  node_sunk (BlockN b) = BlockN (listed (list_sunk None b))
-  node_sunk (LoopN b) = LoopN (listed (list_sunk None b))
-  node_sunk (LeaveN k) = LeaveN k
-  node_sunk (AgainN k) = AgainN k
-  node_sunk (ReturnN p) = ReturnN p
+  pub node_sunk : Walk → NodeT ℕ → NodeT ℕ
+  node_sunk w (DoN o) = DoN o
+  node_sunk w (ChooseN p a b) = ChooseN p (listed (list_sunk w None a)) (listed (list_sunk w None b))
+  node_sunk w (BlockN b) = BlockN (listed (list_sunk w None b))
+  node_sunk w (LoopN b) = LoopN (listed (list_sunk w None b))
+  node_sunk w (LeaveN k) = LeaveN k
+  node_sunk w (AgainN k) = AgainN k
+  node_sunk w (ReturnN p) = ReturnN p
 
-  pub list_sunk : Held → ListT ℕ → List (NodeT ℕ)
-  list_sunk h NoN = held_nodes h
-  list_sunk h (MoreN x rest) = nodes_at h (node_op x) (node_sunk x) ++ list_sunk (held_at h (node_op x)) rest
+  pub list_sunk : Walk → Held → ListT ℕ → List (NodeT ℕ)
+  list_sunk w h NoN = held_nodes h
+  list_sunk w h (MoreN x rest) = nodes_at w h (node_op x) (node_sunk w x) ++ list_sunk w (held_at w h (node_op x)) rest

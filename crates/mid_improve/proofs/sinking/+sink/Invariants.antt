@@ -6,7 +6,7 @@ use Rattle.mid_improve.proofs.sinking.+sink.Given as goal
 
 abbrev pub invariant-sink_nodes-loop-i : goal.invariant-sink_nodes-loop-i
 invariant-sink_nodes-loop-i l = record {
-  sunk : Sunk (held_of l.held) l.i l.ns (drop l.i l.initial.ns) l.initial.ns;
+  sunk : Sunk l.w (held_of l.held) l.i l.ns (drop l.i l.initial.ns) l.initial.ns;
   len : length l.ns ≡ length l.initial.ns;
   unvisited : (k : ℕ) (d : Node ℕ) → l.i ≤ k → get_or l.ns k d ≡ get_or l.initial.ns k d;
 }

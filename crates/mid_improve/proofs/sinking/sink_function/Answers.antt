@@ -6,5 +6,5 @@ use Rattle.mid_improve.proofs.sinking.sink_function.Goals as goal
 
 pub returns : goal.returns
 returns c =
-    let body : map node c.sink_list.new.b ≡ list_sunk None (listed (map node c.args.f.now.body)) = search rules in
-    function_is (function c.args.f.now) _ (sunk_joined c.args.f.now.body c.sink_list.new.b body)
+    let body : map node c.sink_list.new.b ≡ list_sunk c.args.w None (listed (map node c.args.f.now.body)) = search rules in
+    function_is c.args.w (function c.args.f.now) _ (sunk_joined c.args.w c.args.f.now.body c.sink_list.new.b body)

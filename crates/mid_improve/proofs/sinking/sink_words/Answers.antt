@@ -1,30 +1,11 @@
-use Rattle.std.proofs.Common.{rules, ◌≡◌, map, sym, subst}
-use Rattle.mid_code.specs.Functions.{function}
-use Rattle.mid_code.specs.View.{code}
 use Rattle.mid_code.specs.Whole.{mid}
-use Rattle.mid_code.specs.Invariants.{IsMid}
 use Rattle.mid_improve.specs.ImprovedFrom.{IsNoWorseFrom}
-use Rattle.mid_improve.specs.inner.Sinking.{sunk_function}
-use Rattle.mid_improve.proofs.Sinks.{with_functions, sunk_of}
+use Rattle.mid_improve.proofs.Improving.{no_worse_through}
 use Rattle.mid_improve.proofs.sinking.sink_words.Goals as goal
-
-pub new-requires : goal.new-requires
-new-requires c =
-    let x = mid c.args.m in
-    let o = code c.into_code-of.result in
-    let sound : IsMid x = search rules in
-    let of : o ≡ x = search rules in
-    let start : function c.sink_function.new.f ≡ sunk_function (function c.into_code-of.result.start) = search rules in
-    let functions : map function c.from_vec.result ≡ map sunk_function (map function c.into_code-of.result.functions) = search rules in
-    record { is_mid = (sunk_of x o (function c.sink_function.new.f) (map function c.from_vec.result) sound of start functions).is_mid }
 
 pub returns : goal.returns
 returns c =
-    let x = mid c.args.m in
-    let o = code c.into_code-of.result in
-    let sound : IsMid x = search rules in
-    let of : o ≡ x = search rules in
-    let start : function c.sink_function.new.f ≡ sunk_function (function c.into_code-of.result.start) = search rules in
-    let functions : map function c.from_vec.result ≡ map sunk_function (map function c.into_code-of.result.functions) = search rules in
-    let new : mid c.new.result ≡ with_functions o (function c.sink_function.new.f) (map function c.from_vec.result) = search rules in
-    record { sunk = subst (IsNoWorseFrom x) (sym new) (sunk_of x o (function c.sink_function.new.f) (map function c.from_vec.result) sound of start functions) }
+    let first = mid c.sink_by-addresses.result in
+    let second = mid c.sink_by-words.result in
+    let both : IsNoWorseFrom (mid c.args.m) second = no_worse_through (mid c.args.m) first second c.sink_by-addresses.ensures.sunk c.sink_by-words.ensures.sunk in
+    record { sunk = no_worse_through (mid c.args.m) second (mid c.sink_by.result) both c.sink_by.ensures.sunk }

@@ -4,3 +4,4 @@ pub mod Facts
 pub mod Raised
 pub mod Learned
 pub mod Named
+pub mod Turned

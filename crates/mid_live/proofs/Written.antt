@@ -1,7 +1,7 @@
 -- Words that are held, and their bits.
 use Rattle.std.proofs.Common.{◌≡◌, ◌≢◌, ℕ, zero, suc, ◌+◌, ◌*◌, ◌/◌, ◌%◌, ◌^◌, ◌<◌, ◌≤◌, ◌⊎◌, inl, inr, Bool, true, false, ◌||◌, ◌&&◌, not, eqb, ltb, cond, List, [], ◌∷◌, ◌++◌, length, get_or, set, replicate, Option, Some, None, IfSome, bit_and, bit_or, refl, ap, sym, subst, ◌∙◌, arith, w64}
 use Rattle.std.specs.Int.{bit_not}
-use Rattle.std.proofs.lemmas.Bool.{eq-eqb, ne_eqb, ltb-true, ltb-false, false≢true}
+use Rattle.std.proofs.lemmas.Bool.{eq-eqb, ne_eqb, eqb-true, ltb-true, ltb-false, false≢true}
 use Rattle.std.proofs.lemmas.List.{ext_get_or, get_or_past, length-set}
 use Rattle.mid_live.specs.declared.words.Held.{Held}
 use Rattle.mid_code.specs.Live.{is_among}
@@ -36,6 +36,18 @@ put_held ws new hs ks k g l m others is = record {
         | inr d ↦ known ∙ or_right (eqb k i) (on hs i) (g.held i (λ z. n (others i inside d ∙ z)))
       ]);
 }
+
+-- a word changed that was not 0, so that its bit is held already
+pub kept_held : (ws new hs : List ℕ) (k : ℕ) → IsHeld ws hs → length new ≡ length ws → get_or ws k 0 ≢ 0 → ((j : ℕ) → j < length ws → j ≢ k → get_or new j 0 ≡ get_or ws j 0) → IsHeld new hs
+kept_held ws new hs k g l n others = put_held ws new hs hs k g l refl others (λ y h. already y (eqb k y) refl)
+  where
+    already : (y : ℕ) (b : Bool) → eqb k y ≡ b → on hs y ≡ (b || on hs y)
+    already y true e = ap (on hs) (sym (eqb-true k y e)) ∙ g.held k n
+    already y false e = refl
+
+-- a word that became less, but not 0
+pub less_held : (ws new hs : List ℕ) (k : ℕ) → IsHeld ws hs → length new ≡ length ws → get_or new k 0 ≤ get_or ws k 0 → get_or new k 0 ≢ 0 → ((j : ℕ) → j ≢ k → get_or new j 0 ≡ get_or ws j 0) → IsHeld new hs
+less_held ws new hs k g l less n others = kept_held ws new hs k g l (λ z. n (omega (arith, less, z))) (λ j h. others j)
 
 -- a word that became 0, and its bit not held
 pub strike_held : (ws new hs ks : List ℕ) (k : ℕ) → IsHeld ws hs → length new ≡ length ws → length ks ≡ length hs → get_or new k 0 ≡ 0 → ((j : ℕ) → j ≢ k → get_or new j 0 ≡ get_or ws j 0) → ((y : ℕ) → y < room hs → on ks y ≡ cond (eqb k y) false (on hs y)) → IsHeld new ks

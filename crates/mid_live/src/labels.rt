@@ -1,5 +1,5 @@
 // What is live at the ends and the beginnings of what encloses a point.
-ghost use Rattle.std.specs.Prelude.{◌≡◌, ◌∷◌, [], ℕ, ◌<◌, ◌&&◌, not, length, IfOk};
+ghost use Rattle.std.specs.Prelude.{◌≡◌, ◌∷◌, [], ℕ, ◌<◌, ◌||◌, ◌&&◌, not, length, IfOk};
 ghost use Rattle.mid_code.specs.Live.{label, ends_of, begins_of, is_among};
 ghost use Rattle.mid_live.specs.Sets.{on, room};
 ghost use Rattle.mid_live.specs.Labels.{labels_of};
@@ -60,6 +60,24 @@ pub fn at_begin(m: &Labels, k: u32, s: &mut Live)
                 s.set_to(b);
             } else {
                 at_begin(rest, k - 1, s);
+            }
+        }
+    }
+}
+
+/// Puts in what is live where the k-th enclosing block or loop begins anew.
+#[tactic(auto, using(crate::proofs::Facts::begins_below, crate::proofs::Facts::or_none))]
+pub(crate) fn join_begin(m: &Labels, k: u32, s: &mut Live)
+    ensures len { length s.new ≡ length s.old }
+    ensures is { (y : ℕ) → y < room s.old → on s.new y ≡ (on s.old y || begins_of (labels_of y m.now) k) }
+{
+    match m {
+        Labels::Outside => {}
+        Labels::Inside(b, _, rest) => {
+            if k == 0 {
+                s.join(b);
+            } else {
+                join_begin(rest, k - 1, s);
             }
         }
     }

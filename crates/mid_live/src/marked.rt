@@ -1,5 +1,5 @@
 // Words of bits, with marks of those that may be other than 0.
-ghost use Rattle.std.specs.Prelude.{◌≡◌, ◌∷◌, ℕ, ◌*◌, ◌/◌, ◌%◌, ◌<◌, ◌||◌, ◌&&◌, not, false, cond, eqb, length, get_or, replicate};
+ghost use Rattle.std.specs.Prelude.{◌≡◌, ◌≢◌, ◌∷◌, ℕ, ◌*◌, ◌/◌, ◌%◌, ◌<◌, ◌||◌, ◌&&◌, not, false, cond, eqb, length, get_or, replicate};
 ghost use Rattle.std.specs.Prelude.{slice_set, IfOk};
 ghost use Rattle.mid_live.specs.Sets.{on, room};
 ghost use Rattle.mid_live.specs.inner.Words.{bit, some, held_in, IsHeld, FreshIn, spread};
@@ -9,20 +9,23 @@ use crate::words::{Held, put_bit, strike_bit, word, write};
 use kit_base::Memory;
 use std::alloc::Global;
 
-/// A temporary put in.
-#[tactic(auto, using(crate::proofs::Written::put_held))]
+/// A temporary put in. A word that is not 0 is marked already.
+#[tactic(auto, using(crate::proofs::Written::put_held, crate::proofs::Written::kept_held))]
 pub(crate) fn put_marked(words: &mut Vec<u64>, marks: &mut Marks, x: usize)
     requires held { IsHeld words.old.items marks.old }
     ensures held { IsHeld words.new.items marks.new }
     ensures len { length words.new.items ≡ length words.old.items }
     ensures is { (y : ℕ) → y < room words.old.items → on words.new.items y ≡ (eqb x y || on words.old.items y) }
 {
+    let was = word(words.as_slice(), x / 64);
     put_bit(words, x);
-    marks.put(x / 64);
+    if was == 0 {
+        marks.put(x / 64);
+    }
 }
 
 /// A temporary taken out.
-#[tactic(auto, using(crate::proofs::Written::put_held, crate::proofs::Written::strike_held))]
+#[tactic(auto, using(crate::proofs::Written::less_held, crate::proofs::Written::strike_held))]
 pub(crate) fn strike_marked(words: &mut Vec<u64>, marks: &mut Marks, x: usize)
     requires held { IsHeld words.old.items marks.old }
     ensures held { IsHeld words.new.items marks.new }
@@ -32,8 +35,6 @@ pub(crate) fn strike_marked(words: &mut Vec<u64>, marks: &mut Marks, x: usize)
     strike_bit(words, x);
     if word(words.as_slice(), x / 64) == 0 {
         marks.strike(x / 64);
-    } else {
-        marks.put(x / 64);
     }
 }
 
@@ -132,17 +133,30 @@ pub(crate) fn clear_marked(words: &mut Vec<u64>, marks: &mut Marks)
     marks.clear();
 }
 
-/// The bits of a word put in.
-#[tactic(auto, using(crate::proofs::Written::put_held, crate::proofs::Written::written_other))]
+/// The bits of a word put in. The answer is what the word was.
+#[tactic(auto, using(crate::proofs::Written::written_other))]
+fn or_word(words: &mut Vec<u64>, e: Held) -> u64
+    ensures len { length words.new.items ≡ length words.old.items }
+    ensures was { result ≡ get_or words.old.items e.at 0 }
+    ensures others { (j : ℕ) → j < length words.old.items → j ≢ e.at → get_or words.new.items j 0 ≡ get_or words.old.items j 0 }
+    ensures is { (y : ℕ) → y < room words.old.items → on words.new.items y ≡ (on words.old.items y || (eqb e.at (y / 64) && bit e.word (y % 64))) }
+{
+    let was = word(words.as_slice(), e.at);
+    write(words, e.at, was | e.word);
+    was
+}
+
+/// The same in a set.
+#[tactic(auto, using(crate::proofs::Written::put_held, crate::proofs::Written::kept_held))]
 fn join_word(words: &mut Vec<u64>, marks: &mut Marks, e: Held)
     requires held { IsHeld words.old.items marks.old }
     ensures held { IsHeld words.new.items marks.new }
     ensures len { length words.new.items ≡ length words.old.items }
     ensures is { (y : ℕ) → y < room words.old.items → on words.new.items y ≡ (on words.old.items y || (eqb e.at (y / 64) && bit e.word (y % 64))) }
 {
-    let joint = word(words.as_slice(), e.at) | e.word;
-    write(words, e.at, joint);
-    marks.put(e.at);
+    if or_word(words, e) == 0 {
+        marks.put(e.at);
+    }
 }
 
 /// The bits of words put in.

@@ -63,7 +63,7 @@ impl Marks {
     pub(crate) fn next(&self, i: usize) -> usize
         requires few { i ≤ 0x800_0000 }
         ensures from { i ≤ result }
-        ensures few { result ≤ i + 4160 }
+        ensures few { result ≤ i + 4224 }
         ensures none { (j : ℕ) → i ≤ j → j < result → on self.now j ≡ false }
     {
         next_held(self.held.as_slice(), self.tops.as_slice(), i)

@@ -1,19 +1,29 @@
 // What is live before nodes, found by a walk from their end.
-ghost use Rattle.std.specs.Prelude.{◌≡◌, ◌∷◌, ℕ, suc, ◌+◌, ◌<◌, length, IfOk, OnOk, map, false};
-ghost use Rattle.mid_code.specs.Code.{Stop};
-ghost use Rattle.mid_code.specs.Functions.{LoopN, node, nodes, before, listed};
+ghost use Rattle.std.specs.Prelude.{◌≡◌, ◌∷◌, ℕ, suc, ◌+◌, ◌<◌, length, IfOk, IfSome, OnOk, map, false};
+ghost use Rattle.mid_code.specs.Code.{Stop, Choose};
+ghost use Rattle.mid_code.specs.Functions.{LoopN, AgainN, NoN, MoreN, node, nodes, before, listed};
 ghost use Rattle.mid_code.specs.Live.{label, is_live};
 ghost use Rattle.mid_live.specs.Sets.{on, room};
 ghost use Rattle.mid_live.specs.Labels.{labels_of};
 ghost use Rattle.mid_live.specs.Heads.{node_loops, list_loops, NodeTold, ListTold};
 
 use crate::heads::{Head, one_further, pass_loop, told_each};
-use crate::labels::{Labels, at_begin, at_end};
+use crate::labels::{Labels, at_begin, at_end, join_begin};
 use crate::live::{Kept, Live};
 use crate::operations::{at_return, before_op};
 use kit_base::Memory;
 use mid_code::Node;
 use std::alloc::Global;
+
+/// Where nodes are but one that begins anew what is around them: how far out that is.
+fn only_again(ns: &[Node<u32>]) -> Option<u32>
+    ensures { IfSome result (λ k. listed (map node ns.now) ≡ MoreN (AgainN k) NoN) }
+{
+    match ns {
+        [Node::Again(k)] => Some(*k),
+        _ => None,
+    }
+}
 
 #[cycle(walk)]
 #[tactic(auto, using(crate::proofs::Facts::or_none, crate::proofs::Named::told_inside))]
@@ -36,13 +46,10 @@ fn before_node(
             Ok(next)
         }
         Node::Choose(p, a, b) => {
-            let behind = s.kept(alloc)?;
             let Some(_) = b.as_slice().split_first() else {
-                let after = before_nodes(alloc, a.as_slice(), &*m, s, heads, next)?;
-                s.join(&behind);
-                s.put(*p as usize);
-                return Ok(after);
+                return before_one_way(alloc, *p, a.as_slice(), m, s, heads, next);
             };
+            let behind = s.kept(alloc)?;
             let between = before_nodes(alloc, b.as_slice(), &*m, s, heads, next)?;
             let other = s.kept(alloc)?;
             s.restore(&behind);
@@ -80,6 +87,34 @@ fn before_node(
             Ok(next)
         }
     }
+}
+
+/// The same at a choice of one way. A way that only begins anew what is around it takes no copy of the set.
+#[cycle(walk)]
+fn before_one_way(
+    alloc: Global,
+    p: u32,
+    a: &[Node<u32>],
+    m: &Labels,
+    s: &mut Live,
+    heads: &[Head],
+    next: usize,
+) -> Result<usize, Memory>
+    requires told { ListTold (length s.old) heads.now next (listed (map node a.now)) }
+    ensures len { OnOk result (length s.new ≡ length s.old) }
+    ensures next { IfOk result (λ k. k ≡ list_loops (listed (map node a.now)) + next) }
+    ensures is { OnOk result ((y : ℕ) → y < room s.old → on s.new y ≡ is_live y (labels_of y m.now) (Choose p (nodes a.now) Stop Stop) (on s.old y)) }
+{
+    if let Some(k) = only_again(a) {
+        join_begin(m, k, s);
+        s.put(p as usize);
+        return Ok(next);
+    }
+    let behind = s.kept(alloc)?;
+    let after = before_nodes(alloc, a, &*m, s, heads, next)?;
+    s.join(&behind);
+    s.put(p as usize);
+    Ok(after)
 }
 
 /// What is live before the nodes, from what is live after them.

@@ -55,26 +55,30 @@ pub(crate) fn strike_bit(ws: &mut Vec<u64>, x: usize)
     ensures len { length ws.new.items ≡ length ws.old.items }
     ensures is { (y : ℕ) → y < room ws.old.items → on ws.new.items y ≡ cond (eqb x y) false (on ws.old.items y) }
     ensures others { (j : ℕ) → j ≢ x / 64 → get_or ws.new.items j 0 ≡ get_or ws.old.items j 0 }
+    ensures less { get_or ws.new.items (x / 64) 0 ≤ get_or ws.old.items (x / 64) 0 }
 {
     if x / 64 < ws.len() {
         ws[x / 64] = ws[x / 64] & !(1 << (x % 64));
     }
 }
 
-/// A bit put in.
-#[tactic(auto, using(crate::proofs::Written::put_held))]
+/// A bit put in. A word that is not 0 has its bit already.
+#[tactic(auto, using(crate::proofs::Written::put_held, crate::proofs::Written::kept_held))]
 pub(crate) fn put_in(words: &mut Vec<u64>, held: &mut Vec<u64>, x: usize)
     requires held { IsHeld words.old.items held.old.items }
     ensures held { IsHeld words.new.items held.new.items }
     ensures len { length words.new.items ≡ length words.old.items }
     ensures is { (y : ℕ) → y < room words.old.items → on words.new.items y ≡ (eqb x y || on words.old.items y) }
 {
+    let was = word(words.as_slice(), x / 64);
     put_bit(words, x);
-    put_bit(held, x / 64);
+    if was == 0 {
+        put_bit(held, x / 64);
+    }
 }
 
 /// A bit taken out.
-#[tactic(auto, using(crate::proofs::Written::put_held, crate::proofs::Written::strike_held))]
+#[tactic(auto, using(crate::proofs::Written::less_held, crate::proofs::Written::strike_held))]
 pub(crate) fn strike_from(words: &mut Vec<u64>, held: &mut Vec<u64>, x: usize)
     requires held { IsHeld words.old.items held.old.items }
     ensures held { IsHeld words.new.items held.new.items }
@@ -84,8 +88,6 @@ pub(crate) fn strike_from(words: &mut Vec<u64>, held: &mut Vec<u64>, x: usize)
     strike_bit(words, x);
     if word(words.as_slice(), x / 64) == 0 {
         strike_bit(held, x / 64);
-    } else {
-        put_bit(held, x / 64);
     }
 }
 
@@ -104,17 +106,18 @@ fn next_bit(held: &[u64], i: usize) -> usize
     }
 }
 
-/// No bit of words with bits for them stands from this one on and below the answer.
+/// No bit of words with bits for them stands from this one on and below the answer. It is the next bit, where a held word is the next one that is not 0.
 pub(crate) fn next_held(words: &[u64], held: &[u64], i: usize) -> usize
     requires held { IsHeld words.now held.now }
     requires few { i ≤ 0x800_0000 }
     ensures from { i ≤ result }
-    ensures few { result ≤ i + 4160 }
+    ensures few { result ≤ i + 4224 }
     ensures none { (j : ℕ) → i ≤ j → j < result → on words.now j ≡ false }
 {
     let w = word(words, i / 64) >> (i % 64);
     if w == 0 {
-        64 * next_bit(held, i / 64 + 1)
+        let next = next_bit(held, i / 64 + 1);
+        next_bit(words, 64 * next)
     } else {
         i + w.trailing_zeros() as usize
     }

@@ -22,4 +22,3 @@ pub mod Collected
 pub mod Numbered
 pub mod Chooser
 pub mod Program
-pub mod Turned

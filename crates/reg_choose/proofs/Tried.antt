@@ -14,7 +14,7 @@ use Rattle.mid_live.specs.Sets.{on}
 use Rattle.reg_choose.specs.inner.Checked.{Labels, Set, ApartIn, FreeIn, TargetIn, live_set, in_block, in_loop, InsideChecked, ListChecked}
 use Rattle.reg_choose.specs.inner.Holding.{number_at, Stands, Laid, Made, NodeTried, ListTried}
 use Rattle.mid_live.proofs.Facts.{op_live}
-use Rattle.reg_choose.proofs.Turned.{turn_same}
+use Rattle.mid_live.proofs.Turned.{turn_same}
 use Rattle.reg_choose.proofs.Checking.{Like, unlike, apart_like, list_like, node_like, list_drop, one_more, block_whole, loop_whole}
 use Rattle.reg_choose.proofs.Holders.{same_number, reg_number, number_slot, number_same, stands_apart}
 

@@ -271,7 +271,6 @@ fn walk_node(
             let head = head_of(by.alloc, b.as_slice(), &*m, live, &ends, by.heads, next)?;
             let around = nested(&head, &ends, &*m);
             let inside = walk_nodes(by, b.as_slice(), &around, sets, trails, at.place, next)?;
-            sets.live.restore(&head);
             let first = cease_before(by.alloc, trails, &ends, &sets.live, at, inside)?;
             Ok(first)
         }

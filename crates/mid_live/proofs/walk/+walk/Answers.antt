@@ -1,6 +1,6 @@
-use Rattle.std.proofs.Common.{arith, ◌≡◌, ◌-◌, ◌+◌, suc, sym, ap, subst, ◌∙◌, drop, map, length}
-use Rattle.mid_code.specs.Code.{Stop}
-use Rattle.mid_code.specs.Live.{is_live}
+use Rattle.std.proofs.Common.{arith, ◌≡◌, ◌-◌, ◌+◌, ◌||◌, eqb, Bool, true, false, refl, suc, sym, ap, subst, ◌∙◌, drop, map, length}
+use Rattle.mid_code.specs.Code.{Stop, Choose}
+use Rattle.mid_code.specs.Live.{is_live, live_before, begins_of}
 use Rattle.mid_code.specs.Functions.{node, nodes, listed, before, joined}
 use Rattle.mid_live.specs.Sets.{on}
 use Rattle.mid_live.specs.Heads.{list_loops, ListTold}
@@ -8,6 +8,26 @@ use Rattle.mid_live.specs.Labels.{labels_of}
 use Rattle.mid_live.proofs.Facts.{nodes_drop, live_node}
 use Rattle.mid_live.proofs.Learned.{loops_turn}
 use Rattle.mid_live.proofs.walk.+walk.Goals as goal
+
+pub before_one_way-returns-in-Some-clause-next : goal.before_one_way-returns-in-Some-clause-next
+before_one_way-returns-in-Some-clause-next t c =
+    let e = ap list_loops c.in-Some.ensures in
+    omega (arith, e)
+
+pub before_one_way-returns-in-Some-clause-is : goal.before_one_way-returns-in-Some-clause-is
+before_one_way-returns-in-Some-clause-is t c = λ y h.
+    let l = c.join_begin.ensures.len in
+    let j = on c.args.s.now y in
+    let ls = labels_of y c.args.m.now in
+    let put = c.put.ensures.is y (omega (arith, h, l)) ∙ ap (λ z. eqb c.args.p y || z) (c.join_begin.ensures.is y h) in
+    put ∙ either (eqb c.args.p y) j (begins_of ls c.in-Some.k) ∙ sym (ap (λ z. is_live y ls (Choose c.args.p (joined z) Stop Stop) j) c.in-Some.ensures)
+  where
+    either : (p j b : Bool) → (p || (j || b)) ≡ live_before (p || false) false (b || j)
+    either true j b = refl
+    either false true true = refl
+    either false true false = refl
+    either false false true = refl
+    either false false false = refl
 
 pub before_nodes-loop-i-preserved : goal.before_nodes-loop-i-preserved
 before_nodes-loop-i-preserved t c =

@@ -14,6 +14,7 @@ use Rattle.mid_live.proofs.Facts.{nodes_drop, live_node}
 use Rattle.reg_choose.proofs.Trailed.{no_nodes, choose_live, places_node}
 use Rattle.reg_choose.proofs.Walked.{seen_stood, seen_step, choose_seen, block_seen, loop_seen}
 use Rattle.mid_live.proofs.Learned.{loops_turn}
+use Rattle.mid_live.proofs.Turned.{head_again}
 use Rattle.reg_choose.proofs.spans.+walk.Goals as goal
 
 pub walk_node-returns-in_ok-first-in-Choose-clause-trails : goal.walk_node-returns-in_ok-first-in-Choose-clause-trails
@@ -126,9 +127,12 @@ walk_node-returns-in_ok-first-in-Loop-clause-trails t c = λ y h.
     let same : nodes c.as_slice-in-Loop.result.now ≡ nodes c.as_slice-in-Loop-2.result.now = search rules in
     let ends : c.in_ok-ends-in-Loop.ends ≡ c.args.sets.now.live = search rules in
     let again : c.head_of.new.s ≡ c.args.sets.now.live = search rules in
-    let v = on c.restore-in-Loop.new.self y in
-    let is : v ≡ on c.in_ok-head-in-Loop.head y = ap (λ z. on z y) c.restore-in-Loop.ensures in
-    let live = is ∙ c.in_ok-head-in-Loop.ensures.is y g ∙ ap (λ z. is_live y (label false j ∷ ls) z j) same ∙ ap (λ z. is_live y ls (before z Stop) j) (sym e) in
+    let v = on c.walk_nodes-in-Loop.new.sets.live y in
+    let head = c.in_ok-head-in-Loop.ensures.is y g ∙ ap (λ z. is_live y (label false j ∷ ls) z j) same in
+    let labels = c.nested-around-in-Loop.ensures y ∙ ap (λ z. label (on c.in_ok-head-in-Loop.head y) (on z y) ∷ ls) ends in
+    let turn = c.in_ok-inside-in-Loop.ensures.live y (let l = ap length again in omega (arith, g, l)) ∙ ap (λ z. is_live y (labels_of y c.nested-around-in-Loop.result) (joined b) (on z y)) again in
+    let is : v ≡ on c.in_ok-head-in-Loop.head y = head_again y ls (labels_of y c.nested-around-in-Loop.result) (joined b) j (on c.in_ok-head-in-Loop.head y) v head labels turn in
+    let live = is ∙ head ∙ ap (λ z. is_live y ls (before z Stop) j) (sym e) in
     let i1 : labels_of y c.nested-around-in-Loop.result ≡ label v j ∷ ls = c.nested-around-in-Loop.ensures y ∙ ap (λ z. label z (on c.in_ok-ends-in-Loop.ends y) ∷ ls) (sym is) ∙ ap (λ z. label v (on z y) ∷ ls) ends in
     let n = c.in_ok-first-in-Loop.first in
     let inside = c.in_ok-inside-in-Loop.inside in
@@ -140,6 +144,22 @@ walk_node-returns-in_ok-first-in-Loop-clause-trails t c = λ y h.
     let one : s1 ≡ sparse y (label v j ∷ ls) (joined b) j false inside r = c.in_ok-inside-in-Loop.ensures.trails y h ∙ ap (λ z. sparse y (labels_of y c.nested-around-in-Loop.result) (joined b) (on z y) false inside r) again ∙ ap (λ z. sparse y z (joined b) j false inside r) i1 in
     let two : u1 ≡ stood (ceases v j more) c.args.at.place s1 = seen_stood c.walk_nodes-in-Loop.new.trails c.cease_before-in-Loop.new.trails cs y (ceases v (on c.in_ok-ends-in-Loop.ends y) more) c.args.at.place (c.in_ok-first-in-Loop.ensures.is y (omega (arith, h, m1))) ∙ ap (λ z. stood (ceases v (on z y) more) c.args.at.place s1) ends in
     loop_seen (node c.args.x.now) y ls b j v more n inside c.args.at.place r s1 u1 e live c.in_ok-first-in-Loop.ensures.place c.in_ok-inside-in-Loop.ensures.place one two
+
+pub walk_node-returns-in_ok-first-in-Loop-clause-live : goal.walk_node-returns-in_ok-first-in-Loop-clause-live
+walk_node-returns-in_ok-first-in-Loop-clause-live t c = λ y g.
+    let ls : List Label = labels_of y c.args.m.now in
+    let j : Bool = on c.args.sets.now.live y in
+    let b = listed (map node c.as_slice-in-Loop-2.result.now) in
+    let e : node c.args.x.now ≡ LoopN b = search (rules, the_lemmas) in
+    let same : nodes c.as_slice-in-Loop.result.now ≡ nodes c.as_slice-in-Loop-2.result.now = search rules in
+    let ends : c.in_ok-ends-in-Loop.ends ≡ c.args.sets.now.live = search rules in
+    let again : c.head_of.new.s ≡ c.args.sets.now.live = search rules in
+    let h : Bool = on c.in_ok-head-in-Loop.head y in
+    let ms : List Label = labels_of y c.nested-around-in-Loop.result in
+    let head = c.in_ok-head-in-Loop.ensures.is y g ∙ ap (λ z. is_live y (label false j ∷ ls) z j) same in
+    let labels = c.nested-around-in-Loop.ensures y ∙ ap (λ z. label h (on z y) ∷ ls) ends in
+    let turn = c.in_ok-inside-in-Loop.ensures.live y (let l = ap length again in omega (arith, g, l)) ∙ ap (λ z. is_live y ms (joined b) (on z y)) again in
+    head_again y ls ms (joined b) j h (on c.walk_nodes-in-Loop.new.sets.live y) head labels turn ∙ head ∙ ap (λ z. is_live y ls (before z Stop) j) (sym e)
 
 pub walk_nodes-loop-i-preserved : goal.walk_nodes-loop-i-preserved
 walk_nodes-loop-i-preserved t c =

@@ -1,36 +1,36 @@
 -- Where more is live behind code, more is live before it; and a second turn of a loop tells nothing more of its head.
-use Rattle.std.proofs.Common.{◌≡◌, ℕ, zero, suc, Bool, true, false, ◌||◌, List, ◌∷◌, refl}
+use Rattle.std.proofs.Common.{◌≡◌, ℕ, zero, suc, Bool, true, false, ◌||◌, List, ◌∷◌, refl, ap, sym, ◌∙◌}
 use Rattle.std.proofs.lemmas.Bool.{false≢true}
 use Rattle.mid_code.specs.Code.{NodesT, Stop, Do, Call, Choose, Block, Loop, Leave, Again, Return}
 use Rattle.mid_code.specs.Live.{Label, label, ends_of, begins_of, live_before, is_used, is_target, is_live}
 
-left_of : (a b : Bool) → a ≡ true → (a || b) ≡ true
+pub left_of : (a b : Bool) → a ≡ true → (a || b) ≡ true
 left_of true b e = refl
 left_of false b e = absurd (false≢true e)
 
-right_of : (a b : Bool) → b ≡ true → (a || b) ≡ true
+pub right_of : (a b : Bool) → b ≡ true → (a || b) ≡ true
 right_of true b e = refl
 right_of false b e = e
 
-or_more : (a b c d : Bool) → (a ≡ true → c ≡ true) → (b ≡ true → d ≡ true) → (a || b) ≡ true → (c || d) ≡ true
+pub or_more : (a b c d : Bool) → (a ≡ true → c ≡ true) → (b ≡ true → d ≡ true) → (a || b) ≡ true → (c || d) ≡ true
 or_more true b c d f g e = left_of c d (f refl)
 or_more false b c d f g e = right_of c d (g e)
 
-before_more : (u t i j : Bool) → (i ≡ true → j ≡ true) → live_before u t i ≡ true → live_before u t j ≡ true
+pub before_more : (u t i j : Bool) → (i ≡ true → j ≡ true) → live_before u t i ≡ true → live_before u t j ≡ true
 before_more true t i j f e = refl
 before_more false true i j f e = e
 before_more false false i j f e = f e
 
 -- ---- where more is live behind code, more is before it
 
-record Grows (ls ms : List Label) : Type 0 where
-  ends : (k : ℕ) → ends_of ls k ≡ true → ends_of ms k ≡ true
-  begins : (k : ℕ) → begins_of ls k ≡ true → begins_of ms k ≡ true
+pub record Grows (ls ms : List Label) : Type 0 where
+  pub ends : (k : ℕ) → ends_of ls k ≡ true → ends_of ms k ≡ true
+  pub begins : (k : ℕ) → begins_of ls k ≡ true → begins_of ms k ≡ true
 
-grows_same : (ls : List Label) → Grows ls ls
+pub grows_same : (ls : List Label) → Grows ls ls
 grows_same ls = record { ends = λ k e. e; begins = λ k e. e }
 
-grows_in : (ls ms : List Label) (b c i j : Bool) → Grows ls ms → (b ≡ true → c ≡ true) → (i ≡ true → j ≡ true) → Grows (label b i ∷ ls) (label c j ∷ ms)
+pub grows_in : (ls ms : List Label) (b c i j : Bool) → Grows ls ms → (b ≡ true → c ≡ true) → (i ≡ true → j ≡ true) → Grows (label b i ∷ ls) (label c j ∷ ms)
 grows_in ls ms b c i j g f h = record { ends = ends; begins = begins }
   where
     ends : (k : ℕ) → ends_of (label b i ∷ ls) k ≡ true → ends_of (label c j ∷ ms) k ≡ true
@@ -41,7 +41,7 @@ grows_in ls ms b c i j g f h = record { ends = ends; begins = begins }
     begins zero e = f e
     begins (suc k) e = g.begins k e
 
-live_more : (x : ℕ) (ls ms : List Label) (c : NodesT ℕ) (i j : Bool) → Grows ls ms → (i ≡ true → j ≡ true) → is_live x ls c i ≡ true → is_live x ms c j ≡ true
+pub live_more : (x : ℕ) (ls ms : List Label) (c : NodesT ℕ) (i j : Bool) → Grows ls ms → (i ≡ true → j ≡ true) → is_live x ls c i ≡ true → is_live x ms c j ≡ true
 live_more x ls ms Stop i j g f e = f e
 live_more x ls ms (Do o c) i j g f e = before_more (is_used (Do o c) x) (is_target (Do o c) x) (is_live x ls c i) (is_live x ms c j) (live_more x ls ms c i j g f) e
 live_more x ls ms (Call t h args c) i j g f e = before_more (is_used (Call t h args c) x) (is_target (Call t h args c) x) (is_live x ls c i) (is_live x ms c j) (live_more x ls ms c i j g f) e
@@ -71,3 +71,7 @@ turn_same x ls b k = go (is_live x (label false k ∷ ls) b k) refl
     go : (h : Bool) → is_live x (label false k ∷ ls) b k ≡ h → is_live x (label h k ∷ ls) b k ≡ h
     go true e = live_more x (label false k ∷ ls) (label true k ∷ ls) b k k (grows_in ls ls false true k k (grows_same ls) (λ h. refl) (λ h. h)) (λ h. h) e
     go false e = e
+
+-- so a walk through the body that knows what is live at the head comes to it again
+pub head_again : (x : ℕ) (ls ms : List Label) (b : NodesT ℕ) (k h v : Bool) → h ≡ is_live x (label false k ∷ ls) b k → ms ≡ label h k ∷ ls → v ≡ is_live x ms b k → v ≡ h
+head_again x ls ms b k h v head labels turn = turn ∙ ap (λ z. is_live x z b k) (labels ∙ ap (λ z. label z k ∷ ls) head) ∙ turn_same x ls b k ∙ sym head

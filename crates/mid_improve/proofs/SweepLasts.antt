@@ -11,7 +11,8 @@ use Rattle.mid_fold.proofs.Lasts.{made_alike, lasts_alike}
 use Rattle.mid_improve.specs.Settled.{only_puts}
 use Rattle.mid_improve.specs.inner.Wanted.{Labels, Set, live_set, in_block, in_loop, maybe_wanted}
 use Rattle.mid_improve.specs.inner.Sweep.{left, swept, no_labels, none_live}
-use Rattle.mid_improve.proofs.SweepLive.{left_of, right_of, unwanted}
+use Rattle.mid_live.proofs.Turned.{left_of, right_of}
+use Rattle.mid_improve.proofs.SweepLive.{unwanted}
 use Rattle.mid_improve.proofs.SweepLike.{all_among}
 
 -- ---- what is known of what is live

@@ -10,7 +10,8 @@ use Rattle.mid_code.proofs.Liveness.{before_used, before_through}
 use Rattle.mid_improve.specs.Settled.{only_puts}
 use Rattle.mid_improve.specs.inner.Wanted.{Labels, Set, live_set, in_block, in_loop, maybe_wanted}
 use Rattle.mid_improve.specs.inner.Sweep.{left, swept}
-use Rattle.mid_improve.proofs.SweepLive.{left_of, right_of, unwanted, head_covers}
+use Rattle.mid_live.proofs.Turned.{left_of, right_of}
+use Rattle.mid_improve.proofs.SweepLive.{unwanted, head_covers}
 use Rattle.mid_improve.proofs.SweepPass.{hits, Through, Uses, stays, goes, sweeping}
 
 pub all_among : (us : List ℕ) (Q : ℕ → Type 0) → ((q : ℕ) → is_among us q ≡ true → Q q) → AllOf Q us

@@ -14,7 +14,8 @@ use Rattle.mid_improve.specs.inner.Wanted.{Labels, Set, live_set, in_block, in_l
 use Rattle.mid_improve.specs.inner.Sweep.{left, swept, no_labels, none_live, swept_function, swept_code}
 use Rattle.mid_improve.specs.inner.SweptFrom.{IsSweptFunction, EachSwept, HasWanted, IsSweptAlready, IsSweptFrom}
 use Rattle.mid_improve.proofs.SweepLasts.{swept_divisions}
-use Rattle.mid_improve.proofs.SweepLive.{turn_same, unwanted}
+use Rattle.mid_live.proofs.Turned.{turn_same}
+use Rattle.mid_improve.proofs.SweepLive.{unwanted}
 use Rattle.mid_improve.proofs.Wanting.{each_live}
 use Rattle.mid_improve.proofs.SweepProgram.{swept_keeps, swept_works}
 

@@ -332,11 +332,49 @@ fn sink_by(alloc: Global, w: Walk, m: Mid) -> Mid
     })
 }
 
+#[cycle(addresses)]
+fn has_address(n: &Node<u32>) -> bool {
+    match n {
+        Node::Do(Op::Global(_, _)) => true,
+        Node::Do(_) => false,
+        Node::Choose(_, a, b) => have_address(a.as_slice()) || have_address(b.as_slice()),
+        Node::Block(b) => have_address(b.as_slice()),
+        Node::Loop(b) => have_address(b.as_slice()),
+        Node::Leave(_) => false,
+        Node::Again(_) => false,
+        Node::Return(_) => false,
+    }
+}
+
+/// Whether the address of a global is taken in the nodes.
+#[cycle(addresses)]
+fn have_address(ns: &[Node<u32>]) -> bool {
+    for n in ns {
+        if has_address(n) {
+            return true;
+        }
+    }
+    false
+}
+
+fn takes_addresses(of: &Code<u32>) -> bool {
+    for f in of.functions.as_slice() {
+        if have_address(f.body.as_slice()) {
+            return true;
+        }
+    }
+    have_address(of.start.body.as_slice())
+}
+
 /// The code in which addresses and known words stand where they are used. Addresses come first, so that the address of a global goes to the address that is
-/// made of it then; the last walk takes those addresses of globals further that stood before another word that was held back.
+/// made of it then; the last walk takes those addresses of globals further that stood before another word that was held back. Where no address of a global is
+/// taken, these two walks would hold nothing back.
 pub(crate) fn sink_words(alloc: Global, m: Mid) -> Mid
     ensures sunk { IsNoWorseFrom (mid m) (mid result) }
 {
+    if !takes_addresses(m.code()) {
+        return sink_by(alloc, Walk::Words, m);
+    }
     let addresses = sink_by(alloc, Walk::Addresses, m);
     let words = sink_by(alloc, Walk::Words, addresses);
     sink_by(alloc, Walk::Globals, words)

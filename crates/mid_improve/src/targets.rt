@@ -102,7 +102,6 @@ fn walk_node(
             let head = head_of(alloc, b.as_slice(), &*m, s, &ends, heads, next)?;
             let around = nested(&head, &ends, &*m);
             let fine = walk_nodes(alloc, count, b.as_slice(), &around, s, heads, next)?;
-            s.restore(&head);
             Ok(fine)
         }
         Node::Leave(k) => {

@@ -1,6 +1,6 @@
-use Rattle.std.proofs.Common.{rules, arith, ◌≡◌, ℕ, true, false, suc, ◌+◌, ◌<◌, ◌≤◌, nat_lt, ltb-true, ◌-◌, ◌∷◌, drop, map, sym, ap, subst, ◌∙◌}
+use Rattle.std.proofs.Common.{rules, arith, ◌≡◌, ℕ, Bool, true, false, List, length, suc, ◌+◌, ◌<◌, ◌≤◌, nat_lt, ltb-true, ◌-◌, ◌∷◌, drop, map, sym, ap, subst, ◌∙◌}
 use Rattle.mid_code.specs.Code.{Stop}
-use Rattle.mid_code.specs.Live.{label, is_live}
+use Rattle.mid_code.specs.Live.{Label, label, is_live}
 use Rattle.mid_code.specs.Functions.{LoopN, MoreN, node, nodes, listed, before, joined}
 use Rattle.mid_code.specs.declared.node.Node.{the_lemmas}
 use Rattle.mid_live.specs.Sets.{on, room}
@@ -9,6 +9,7 @@ use Rattle.mid_live.specs.Heads.{list_loops, ListTold}
 use Rattle.mid_improve.specs.inner.Wanted.{Labels, live_set, list_wanted}
 use Rattle.mid_live.proofs.Facts.{nodes_drop, live_node}
 use Rattle.mid_live.proofs.Learned.{loops_turn}
+use Rattle.mid_live.proofs.Turned.{head_again}
 use Rattle.mid_improve.proofs.Wanting.{list_step, loop_wanted}
 use Rattle.mid_improve.proofs.targets.+wanted.Goals as goal
 
@@ -31,6 +32,23 @@ walk_node-returns-in_ok-fine-in-Loop-clause-wanted t c =
     let at : on g y ≡ is_live y (label false (on s y) ∷ ls y) (joined b) (on s y) = c.in_ok-head-in-Loop.ensures.is y (omega (arith, lt, w)) ∙ ap (λ z. is_live y (label false (on s y) ∷ ls y) z (on s y)) same in
     c.nested-around-in-Loop.ensures y ∙ ap (λ z. label z (on c.in_ok-ends-in-Loop.ends y) ∷ ls y) at ∙ ap (λ z. label (live_set ls (before (LoopN b) Stop) (on s) y) (on z y) ∷ ls y) ends in
     loop_wanted n ls ms x b (on s) (on c.head_of.new.s) c.in_ok-fine-in-Loop.fine e k (ap on again) c.in_ok-fine-in-Loop.ensures.wanted
+
+pub walk_node-returns-in_ok-fine-in-Loop-clause-is : goal.walk_node-returns-in_ok-fine-in-Loop-clause-is
+walk_node-returns-in_ok-fine-in-Loop-clause-is t c = λ y g.
+    let s = c.args.s.now in
+    let ls : List Label = labels_of y c.args.m.now in
+    let ms : List Label = labels_of y c.nested-around-in-Loop.result in
+    let j : Bool = on s y in
+    let b = listed (map node c.as_slice-in-Loop-2.result.now) in
+    let e : node c.args.n.now ≡ LoopN b = search (rules, the_lemmas) in
+    let same : nodes c.as_slice-in-Loop.result.now ≡ nodes c.as_slice-in-Loop-2.result.now = search rules in
+    let ends : c.in_ok-ends-in-Loop.ends ≡ s = search rules in
+    let again : c.head_of.new.s ≡ s = search rules in
+    let h : Bool = on c.in_ok-head-in-Loop.head y in
+    let head = c.in_ok-head-in-Loop.ensures.is y g ∙ ap (λ z. is_live y (label false j ∷ ls) z j) same in
+    let labels = c.nested-around-in-Loop.ensures y ∙ ap (λ z. label h (on z y) ∷ ls) ends in
+    let turn = c.in_ok-fine-in-Loop.ensures.is y (let l = ap length again in omega (arith, g, l)) ∙ ap (λ z. is_live y ms (joined b) (on z y)) again in
+    head_again y ls ms (joined b) j h (on c.walk_nodes-in-Loop.new.s y) head labels turn ∙ head ∙ ap (λ z. is_live y ls (before z Stop) j) (sym e)
 
 pub walk_nodes-loop-i-preserved : goal.walk_nodes-loop-i-preserved
 walk_nodes-loop-i-preserved t c =

@@ -1,27 +1,28 @@
 -- An operation that reuses a result does what the operation does, where what is known is so.
-use Rattle.std.proofs.Common.{◌≡◌, ℕ, ◌+◌, false, eqb, List, [], ◌∷◌, Option, Some, None, refl, sym, ap, subst, ◌∙◌}
+use Rattle.std.proofs.Common.{◌≡◌, ℕ, ◌+◌, ◌%◌, ◌^◌, true, false, eqb, List, [], ◌∷◌, Option, Some, None, refl, sym, ap, subst, ◌∙◌, arith}
 use Rattle.std.specs.Prelude.{Ok, Err}
+use Rattle.std.proofs.Math.Nat.{mod-lt, mod-eq_of_lt}
 use Rattle.v32_isa.specs.declared.instruction.Two.{Two}
 use Rattle.obj_mem.specs.declared.cell.Cell.{Cell}
-use Rattle.obj_mem.specs.declared.cell.Cell.TheVariants.{Num, Ptr, Null}
+use Rattle.obj_mem.specs.declared.cell.Cell.TheVariants.{Unwritten, Num, Ptr, Null}
 use Rattle.obj_mem.specs.Objects.{ObjectT}
 use Rattle.obj_mem.specs.declared.refusal.Refusal.TheVariants.{Strays, Faults}
-use Rattle.obj_mem.specs.Queries.{Answer}
-use Rattle.obj_mem.specs.Stores.{Sizes}
+use Rattle.obj_mem.specs.Queries.{Answer, step, first_cell}
+use Rattle.obj_mem.specs.Stores.{Sizes, local_object}
 use Rattle.mid_code.specs.Code.{OpT, ConstO, NullO, MoveO, OneO, TwoO, GlobalO, LocalO, LiteralO, CardO, StepO, ApartO, PtrTestO, LoadO, StoreO, FreshO, EndO, InO, OutO, WaitO, HaltO}
 use Rattle.mid_code.specs.Meaning.{Did, On, Ends}
 use Rattle.mid_code.specs.States.{State, temporaries, put_in, to, to_objects, input, output, acted, op_weight, two_words, stepped}
-use Rattle.mid_fold.specs.inner.Reusing.{Seen, operand_in, result_of, made, behind, seen_behind, moved_or, reused_op}
+use Rattle.mid_fold.specs.inner.Reusing.{Seen, operand_in, result_of, made, step_found, is_address, behind, seen_behind, moved_or, reused_op}
 use Rattle.mid_fold.specs.declared.operand.Operand.TheVariants as operand
 use Rattle.mid_fold.specs.declared.made.Maker.{Maker}
-use Rattle.mid_fold.specs.declared.made.Maker.TheVariants.{Operator, Step}
+use Rattle.mid_fold.specs.declared.made.Maker.TheVariants.{Operator, Step, Local}
 use Rattle.mid_fold.proofs.Knowing.{put_off, put_on}
-use Rattle.mid_fold.proofs.ReuseKnowing.{Holds, found_is, operand_is, still_holds, operand_holds, result_holds}
+use Rattle.mid_fold.proofs.ReuseKnowing.{Holds, found_is, step_is, operand_is, still_holds, operand_holds, result_holds, local_holds as of_local}
 
 -- ---- an operation stays, or it is a move to the same target
 
 pub each_reused : (P : OpT ℕ → OpT ℕ → Type 0) (k : Seen) → ((o : OpT ℕ) → P o o) → ((o : Two) (t a b q : ℕ) → result_of k.1 (made k.0 (Operator o) t a b) ≡ Some q → P (TwoO o t a b) (MoveO t q))
-    → ((t p n q : ℕ) → result_of k.1 (made k.0 Step t p n) ≡ Some q → P (StepO t p n) (MoveO t q)) → (o : OpT ℕ) → P o (reused_op k o)
+    → ((t p n q : ℕ) → step_found k t p n ≡ Some q → P (StepO t p n) (MoveO t q)) → (o : OpT ℕ) → P o (reused_op k o)
 each_reused P k same moves steps (TwoO o t a b) = go (result_of k.1 (made k.0 (Operator o) t a b)) refl
   where
     go : (r : Option ℕ) → result_of k.1 (made k.0 (Operator o) t a b) ≡ r → P (TwoO o t a b) (moved_or t (TwoO o t a b) r)
@@ -35,9 +36,9 @@ each_reused P k same moves steps (GlobalO t n) = same (GlobalO t n)
 each_reused P k same moves steps (LocalO t n) = same (LocalO t n)
 each_reused P k same moves steps (LiteralO t n) = same (LiteralO t n)
 each_reused P k same moves steps (CardO t) = same (CardO t)
-each_reused P k same moves steps (StepO t p n) = go (result_of k.1 (made k.0 Step t p n)) refl
+each_reused P k same moves steps (StepO t p n) = go (step_found k t p n) refl
   where
-    go : (r : Option ℕ) → result_of k.1 (made k.0 Step t p n) ≡ r → P (StepO t p n) (moved_or t (StepO t p n) r)
+    go : (r : Option ℕ) → step_found k t p n ≡ r → P (StepO t p n) (moved_or t (StepO t p n) r)
     go None e = same (StepO t p n)
     go (Some q) e = steps t p n q e
 each_reused P k same moves steps (ApartO t p q) = same (ApartO t p q)
@@ -56,10 +57,32 @@ each_reused P k same moves steps HaltO = same HaltO
 abbrev pub address : ℕ → Cell
 address n = Ptr n 0
 
--- a cell is made of two
+-- A cell is made of two. The step by 0 of the address of a local is that address.
 abbrev pub MakesCell : Maker → Cell → Cell → Cell → Type 0
 MakesCell (Operator o) c d e = two_words o c d ≡ Ok e
 MakesCell Step c d e = stepped c d ≡ Ok e
+MakesCell Local c d e = stepped e (Num 0) ≡ Ok e
+
+-- an offset that is a word, and 0 added to it
+no_further : (n : ℕ) → (n % 2 ^ 32 + 0) % 2 ^ 32 ≡ n % 2 ^ 32
+no_further n = let e : n % 2 ^ 32 + 0 ≡ n % 2 ^ 32 = omega arith in ap (λ i. i % 2 ^ 32) e ∙ mod-eq_of_lt (mod-lt n (omega arith))
+
+step_stays : (c : Cell) (n : ℕ) (e : Cell) → step c n ≡ Ok e → step e 0 ≡ Ok e
+step_stays (Ptr o i) n e f = let same : Ptr o ((i + n) % 2 ^ 32) ≡ e = cc in subst (λ d. step d 0 ≡ Ok d) same (ap (λ j. Ok (Ptr o j)) (no_further (i + n)))
+step_stays Unwritten n e f = absurd cc
+step_stays (Num x) n e f = absurd cc
+step_stays Null n e f = absurd cc
+
+stepped_stays : (c d e : Cell) → stepped c d ≡ Ok e → stepped e (Num 0) ≡ Ok e
+stepped_stays c (Num n) e f = step_stays c n e f
+stepped_stays c Unwritten e f = absurd cc
+stepped_stays c (Ptr o i) e f = absurd cc
+stepped_stays c Null e f = absurd cc
+
+cell_stays : (o : Maker) (c d e : Cell) → is_address (Some o) ≡ true → MakesCell o c d e → stepped e (Num 0) ≡ Ok e
+cell_stays (Operator o) c d e f h = absurd cc
+cell_stays Step c d e f h = stepped_stays c d e h
+cell_stays Local c d e f h = h
 
 -- what is known is so of the cells
 abbrev pub HoldsOf : Seen → (ℕ → Cell) → Type 0
@@ -68,7 +91,7 @@ HoldsOf = Holds Num address MakesCell
 pub same_done : (z : Sizes) (k : Seen) (o : OpT ℕ) (s : State ℕ) → HoldsOf k s.cells → acted temporaries z (reused_op k o) s ≡ acted temporaries z o s
 same_done z k o s h =
     each_reused (λ o p. acted temporaries z p s ≡ acted temporaries z o s) k (λ o. refl) (λ o t a b q e. ap (λ r. to temporaries t r s) (sym (found_is Num address MakesCell k s.cells (Operator o) t a b q h e)))
-    (λ t p n q e. ap (λ r. to temporaries t r s) (sym (found_is Num address MakesCell k s.cells Step t p n q h e))) o
+    (λ t p n q e. ap (λ r. to temporaries t r s) (sym (step_is Num address MakesCell cell_stays k s.cells t p n q h e))) o
 
 pub same_weight : (k : Seen) (o : OpT ℕ) → op_weight (reused_op k o) ≡ op_weight o
 same_weight k o = each_reused (λ o p. op_weight p ≡ op_weight o) k (λ o. refl) (λ o t a b q e. refl) (λ t p n q e. refl) o
@@ -115,6 +138,13 @@ module _ (k : Seen) (s u : State ℕ) (h : HoldsOf k s.cells) where
   step_holds t p n (Err Strays) f e = absurd cc
   step_holds t p n (Err (Faults m)) f e = absurd cc
 
+  local_holds : (t n : ℕ) (l : Option ℕ) → to temporaries t (first_cell l) s ≡ On u → HoldsOf (seen_behind k (LocalO t n)) u.cells
+  local_holds t n (Some o) e =
+      let same : put_in temporaries t (Ptr o 0) s ≡ u = cc in
+      of_local Num address MakesCell t s.cells u.cells (off t (Ptr o 0) same) k h
+      (ap (λ c. stepped c (Num 0)) (on t (Ptr o 0) same) ∙ ap Ok (sym (on t (Ptr o 0) same)))
+  local_holds t n None e = absurd cc
+
   address_holds : (t n : ℕ) → to temporaries t (Ok (Ptr n 0)) s ≡ On u → HoldsOf (seen_behind k (GlobalO t n)) u.cells
   address_holds t n e = let same : put_in temporaries t (Ptr n 0) s ≡ u = cc in operand_holds Num address MakesCell t s.cells u.cells (off t (Ptr n 0) same) k (operand.Address n) h (on t (Ptr n 0) same)
 
@@ -143,7 +173,7 @@ holds_after z k (MoveO t a) s u h e = move_holds k s u h t a e
 holds_after z k (OneO o t a) s u h e = to_holds k s u h t _ e
 holds_after z k (TwoO o t a b) s u h e = two_holds k s u h o t a b (two_words o (s.cells a) (s.cells b)) refl e
 holds_after z k (GlobalO t n) s u h e = address_holds k s u h t n e
-holds_after z k (LocalO t n) s u h e = to_holds k s u h t _ e
+holds_after z k (LocalO t n) s u h e = local_holds k s u h t n (local_object s.world.store.locals n) e
 holds_after z k (LiteralO t n) s u h e = to_holds k s u h t (Ok (Ptr (z.first_literal + n) 0)) e
 holds_after z k (CardO t) s u h e = to_holds k s u h t (Ok (Ptr z.card 0)) e
 holds_after z k (StepO t p n) s u h e = step_holds k s u h t p n (stepped (s.cells p) (s.cells n)) refl e

@@ -7,8 +7,8 @@ use Rattle.mid_code.specs.Code.{MoveO, TwoO, StepO, NodesT, Do, Choose, Block, L
 use Rattle.mid_code.specs.Functions.{NodeT, DoN, ChooseN, BlockN, LoopN, LeaveN, AgainN, ReturnN, ListT, NoN, MoreN, op_before, listed, node, before, joined, nodes}
 use Rattle.v32_isa.specs.declared.instruction.Two.{Two}
 use Rattle.mid_fold.specs.declared.made.Made.{Made}
-use Rattle.mid_fold.specs.declared.made.Maker.TheVariants.{Operator, Step}
-use Rattle.mid_fold.specs.inner.Reusing.{Seen, Operands, Results, nothing_seen, is_cell, operands_behind, results_behind, made, result_of, seen_behind, moved_or, reused, reused_function}
+use Rattle.mid_fold.specs.declared.made.Maker.TheVariants.{Operator}
+use Rattle.mid_fold.specs.inner.Reusing.{Seen, Operands, Results, nothing_seen, is_cell, operands_behind, results_behind, made, result_of, step_found, seen_behind, moved_or, reused, reused_function}
 use Rattle.mid_fold.specs.inner.ReusingListed.{or_move, op_reused, op_seen, node_seen, node_reused, list_reused}
 
 -- an operator or a step that stays or becomes a move to its target, in memory and as plain data
@@ -32,7 +32,7 @@ op_is k (op.Global t n) c d e = ap (op_before (op.Global t n)) e
 op_is k (op.Local t n) c d e = ap (op_before (op.Local t n)) e
 op_is k (op.Literal t n) c d e = ap (op_before (op.Literal t n)) e
 op_is k (op.Card t) c d e = ap (op_before (op.Card t)) e
-op_is k (op.Step t p n) c d e = step_is k t p n (result_of k.1 (made k.0 Step t p n)) c d e
+op_is k (op.Step t p n) c d e = step_is k t p n (step_found k t p n) c d e
 op_is k (op.Apart t p q) c d e = ap (op_before (op.Apart t p q)) e
 op_is k (op.PtrTest o t p q) c d e = ap (op_before (op.PtrTest o t p q)) e
 op_is k (op.Load t p) c d e = ap (op_before (op.Load t p)) e

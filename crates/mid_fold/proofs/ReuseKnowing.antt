@@ -7,9 +7,9 @@ use Rattle.v32_isa.specs.declared.instruction.Two.{Two}
 use Rattle.mid_fold.specs.declared.operand.Operand.{Operand}
 use Rattle.mid_fold.specs.declared.operand.Operand.TheVariants.{Word, Address, Cell}
 use Rattle.mid_fold.specs.declared.made.Maker.{Maker}
-use Rattle.mid_fold.specs.declared.made.Maker.TheVariants.{Operator, Step}
+use Rattle.mid_fold.specs.declared.made.Maker.TheVariants.{Operator, Step, Local}
 use Rattle.mid_fold.specs.declared.made.Made.{Made}
-use Rattle.mid_fold.specs.inner.Reusing.{Operands, Results, Seen, nothing_seen, operand_in, is_same, is_same_operator, is_same_maker, is_made_by, result_in, result_of, is_cell, operands_behind, results_behind, behind, with_operand, is_worth, is_kept, with_result, made}
+use Rattle.mid_fold.specs.inner.Reusing.{Operands, Results, Seen, nothing_seen, operand_in, is_same, is_same_operator, is_same_maker, is_made_by, result_in, result_of, is_cell, operands_behind, results_behind, behind, with_operand, is_worth, is_kept, with_result, made, maker_in, is_zero, is_address, step_found, address_of_local}
 
 -- ---- what equal tests say
 
@@ -21,6 +21,9 @@ same_maker (Operator a) (Operator b) e = ap Operator (same_operator a b e)
 same_maker Step Step e = refl
 same_maker (Operator a) Step e = absurd cc
 same_maker Step (Operator b) e = absurd cc
+same_maker Local b e = absurd cc
+same_maker (Operator a) Local e = absurd cc
+same_maker Step Local e = absurd cc
 
 same_operand : (x y : Operand) → is_same x y ≡ true → x ≡ y
 same_operand (Word a) (Word b) e = ap Word (eqb-true a b e)
@@ -110,6 +113,50 @@ module _ {V : Type 0} (word address : ℕ → V) (Makes : Maker → V → V → 
       go true f = made_of refl (sym (operand_is k.0 vs a h.0)) (sym (operand_is k.0 vs b h.0)) refl (result_is k.1 vs o (operand_in k.0 a) (operand_in k.0 b) q h.1 f)
       go false f = absurd cc
 
+  -- what a pointer is made by, and that the step of it by 0 is it
+  abbrev pub Stays : Type 0
+  Stays = (o : Maker) (a b v : V) → is_address (Some o) ≡ true → Makes o a b v → Makes Step v (word 0) v
+
+  address_stays : Stays → (ms : Results) (vs : ℕ → V) (x : Operand) → AreMade ms vs → is_address (maker_in ms x) ≡ true
+      → Makes Step (value vs x) (word 0) (value vs x)
+  address_stays st [] vs x h e = absurd cc
+  address_stays st (m ∷ ms) vs x h e = go (λ f. address_stays st ms vs x h.1 f) (is_cell x m.target) refl e
+    where
+      at_target : (y : Operand) → is_cell y m.target ≡ true → vs m.target ≡ value vs y
+      at_target (Word w) f = absurd cc
+      at_target (Address n) f = absurd cc
+      at_target (Cell q) f = sym (ap vs (eqb-true q m.target f))
+
+      go : (is_address (maker_in ms x) ≡ true → Makes Step (value vs x) (word 0) (value vs x)) → (b : Bool) → is_cell x m.target ≡ b
+          → is_address (cond b (Some m.by) (maker_in ms x)) ≡ true → Makes Step (value vs x) (word 0) (value vs x)
+      go r true f g = subst (λ v. Makes Step v (word 0) v) (at_target x f) (st m.by (value vs m.first) (value vs m.second) (vs m.target) g h.0)
+      go r false f g = r g
+
+  zero_is : (vs : ℕ → V) (x : Operand) → is_zero x ≡ true → word 0 ≡ value vs x
+  zero_is vs (Word w) e = ap word (sym (eqb-true w 0 e))
+  zero_is vs (Address n) e = absurd cc
+  zero_is vs (Cell q) e = absurd cc
+
+  -- what stands in the temporary that has what a step makes
+  pub step_is : Stays → (k : Seen) (vs : ℕ → V) (t p n q : ℕ) → Holds k vs → step_found k t p n ≡ Some q → Makes Step (vs p) (vs n) (vs q)
+  step_is st k vs t p n q h e = go (is_zero y && is_address (maker_in k.1 x)) refl e
+    where
+      x : Operand
+      x = operand_in k.0 p
+
+      y : Operand
+      y = operand_in k.0 n
+
+      go : (b : Bool) → (is_zero y && is_address (maker_in k.1 x)) ≡ b
+          → cond b (Some p) (result_of k.1 (made k.0 Step t p n)) ≡ Some q → Makes Step (vs p) (vs n) (vs q)
+      go true f g =
+          let same : p ≡ q = cc in
+          let parts = both (is_zero y) (is_address (maker_in k.1 x)) f in
+          let first = sym (operand_is k.0 vs p h.0) in
+          let second = zero_is vs y parts.0 ∙ sym (operand_is k.0 vs n h.0) in
+          made_of refl first second (first ∙ ap vs same) (address_stays st k.1 vs x h.1 parts.1)
+      go false f g = found_is k vs Step t p n q h g
+
   -- ---- where t takes another value
 
   module _ (t : ℕ) (vs us : ℕ → V) (off : (r : ℕ) → eqb r t ≡ false → us r ≡ vs r) where
@@ -175,11 +222,16 @@ module _ {V : Type 0} (word address : ℕ → V) (Makes : Maker → V → V → 
         y : Operand
         y = operand_in k.0 b
 
-        go : (w : Bool) → is_kept ms (made k.0 o t a b) ≡ w → AreMade (cond w (made k.0 o t a b ∷ take (min (length ms) 7) ms) ms) us
+        go : (w : Bool) → is_kept ms (made k.0 o t a b) ≡ w → AreMade (cond w (made k.0 o t a b ∷ take (min (length ms) 15) ms) ms) us
         go true f =
             let parts = both (is_worth ms o x y) (not (is_cell x t || is_cell y t)) f in
             let off_t = neither (is_cell x t) (is_cell y t) (is_not (is_cell x t || is_cell y t) parts.1) in
             let first : value us x ≡ vs a = value_stays x off_t.0 ∙ sym (operand_is k.0 vs a h.0) in
             let second : value us y ≡ vs b = value_stays y off_t.1 ∙ sym (operand_is k.0 vs b h.0) in
-            (made_of refl (sym first) (sym second) refl e, first_made (min (length ms) 7) ms (still_made k.1 h.1))
+            (made_of refl (sym first) (sym second) refl e, first_made (min (length ms) 15) ms (still_made k.1 h.1))
         go false f = still_made k.1 h.1
+
+    -- t takes the address of a local
+    pub local_holds : (k : Seen) → Holds k vs → Makes Local (word 0) (word 0) (us t)
+        → Holds (operands_behind k.0 t, with_result (results_behind k.1 t) (address_of_local t)) us
+    local_holds k h e = (still_told k.0 h.0, (e, first_made (min (length (results_behind k.1 t)) 15) (results_behind k.1 t) (still_made k.1 h.1)))

@@ -9,10 +9,10 @@ use Rattle.mid_fold.specs.Lasting.{KnownWords, no_words, one_known, two_known, w
 use Rattle.mid_fold.specs.declared.operand.Operand.{Operand}
 use Rattle.mid_fold.specs.declared.operand.Operand.TheVariants as operand
 use Rattle.mid_fold.specs.declared.made.Maker.{Maker}
-use Rattle.mid_fold.specs.declared.made.Maker.TheVariants.{Operator, Step}
-use Rattle.mid_fold.specs.inner.Reusing.{Seen, nothing_seen, operand_in, result_in, result_of, made, behind, is_operator_worth, seen_behind, reused_op, reused}
+use Rattle.mid_fold.specs.declared.made.Maker.TheVariants.{Operator, Step, Local}
+use Rattle.mid_fold.specs.inner.Reusing.{Seen, nothing_seen, operand_in, result_in, result_of, made, is_address, behind, is_operator_worth, seen_behind, reused_op, reused}
 use Rattle.mid_fold.proofs.Lasts.{SameWords, itself, other_way, operator_if, op_lasts}
-use Rattle.mid_fold.proofs.ReuseKnowing.{Holds, nothing_holds, found_is, operand_is, still_holds, operand_holds, result_holds}
+use Rattle.mid_fold.proofs.ReuseKnowing.{Holds, nothing_holds, found_is, step_is, operand_is, still_holds, operand_holds, result_holds, local_holds}
 use Rattle.mid_fold.proofs.ReuseActing.{each_reused}
 
 abbrev no_word : ℕ → Option ℕ
@@ -22,6 +22,12 @@ no_word n = None
 abbrev MakesWord : Maker → Option ℕ → Option ℕ → Option ℕ → Type 0
 MakesWord (Operator o) x y w = two_known o x y ≡ w
 MakesWord Step x y w = None ≡ w
+MakesWord Local x y w = None ≡ w
+
+word_stays : (o : Maker) (x y w : Option ℕ) → is_address (Some o) ≡ true → MakesWord o x y w → None ≡ w
+word_stays (Operator o) x y w e h = absurd cc
+word_stays Step x y w e h = h
+word_stays Local x y w e h = h
 
 abbrev HoldsWords : Seen → KnownWords → Type 0
 HoldsWords = Holds Some no_word MakesWord
@@ -67,7 +73,7 @@ same_words k ws o h =
       made = sym (found_is Some no_word MakesWord k ws (Operator o) t a b q h e);
       lasts = sym (ap (λ d. operator_if o (d && not (is_nonzero (ws b)))) (found_worth k o t a b q e));
     })
-    (λ t p n q e. record { target = refl; made = sym (found_is Some no_word MakesWord k ws Step t p n q h e); lasts = refl }) o
+    (λ t p n q e. record { target = refl; made = sym (step_is Some no_word MakesWord word_stays k ws t p n q h e); lasts = refl }) o
 
 module _ (k : Seen) (ws : KnownWords) (h : HoldsWords k ws) where
   off : (t : ℕ) (made : Option ℕ) (r : ℕ) → eqb r t ≡ false → with_word (Some t) made ws r ≡ ws r
@@ -88,7 +94,7 @@ module _ (k : Seen) (ws : KnownWords) (h : HoldsWords k ws) where
       let word = two_known o (ws a) (ws b) in
       result_holds Some no_word MakesWord t ws (with_word (Some t) word ws) (off t word) k (Operator o) a b h (sym (on t word))
   holds_behind (GlobalO t n) = operand_holds Some no_word MakesWord t ws (with_word (Some t) None ws) (off t None) k (operand.Address n) h (on t None)
-  holds_behind (LocalO t n) = target_holds t None
+  holds_behind (LocalO t n) = local_holds Some no_word MakesWord t ws (with_word (Some t) None ws) (off t None) k h (sym (on t None))
   holds_behind (LiteralO t n) = target_holds t None
   holds_behind (CardO t) = target_holds t None
   holds_behind (StepO t p n) = result_holds Some no_word MakesWord t ws (with_word (Some t) None ws) (off t None) k Step p n h (sym (on t None))

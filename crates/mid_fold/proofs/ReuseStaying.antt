@@ -1,5 +1,5 @@
 -- Code whose results are used again is mid code, weighs the same, and has the same loops, calls and locals that live at once.
-use Rattle.std.proofs.Common.{◌≡◌, ℕ, zero, suc, ◌+◌, ◌<◌, Bool, true, false, cond, eqb, ◌||◌, List, [], ◌∷◌, min, take, map, length, sum_by, option_map, slice_get, Some, None, refl, ap, subst, ◌∙◌, arith}
+use Rattle.std.proofs.Common.{◌≡◌, ℕ, zero, suc, ◌+◌, ◌<◌, Bool, true, false, cond, eqb, ◌&&◌, ◌||◌, List, [], ◌∷◌, min, take, map, length, sum_by, option_map, slice_get, Some, None, refl, ap, subst, ◌∙◌, arith}
 use Rattle.std.proofs.lemmas.List.Sums.{sum_by-cons}
 use Rattle.mid_code.specs.Code.{OpT, ConstO, NullO, MoveO, OneO, TwoO, GlobalO, LocalO, LiteralO, CardO, StepO, ApartO, PtrTestO, LoadO, StoreO, FreshO, EndO, InO, OutO, WaitO, HaltO, NodesT, Stop, Do, Call, Choose, Block, Loop, Leave, Again, Return, FunctionT, CodeT, maybe, uses, target}
 use Rattle.mid_code.specs.Calls.{AddsNone, NoneAdd}
@@ -12,7 +12,7 @@ use Rattle.mid_fold.specs.declared.operand.Operand.{Operand}
 use Rattle.mid_fold.specs.declared.made.Made.{Made}
 use Rattle.mid_fold.specs.declared.made.Maker.{Maker}
 use Rattle.mid_fold.specs.declared.made.Maker.TheVariants.{Operator, Step}
-use Rattle.mid_fold.specs.inner.Reusing.{Seen, Results, nothing_seen, is_made_by, is_worth, is_kept, is_cell, result_in, result_of, results_behind, with_result, made, seen_behind, reused_op, reused, reused_function, reused_code}
+use Rattle.mid_fold.specs.inner.Reusing.{Seen, Results, nothing_seen, operand_in, is_made_by, is_worth, is_kept, is_cell, result_in, result_of, maker_in, is_zero, is_address, step_found, address_of_local, results_behind, with_result, made, seen_behind, reused_op, reused, reused_function, reused_code}
 use Rattle.mid_fold.specs.FoldedFrom.{IsFoldedFunction, EachFolded}
 use Rattle.mid_fold.proofs.ReuseActing.{each_reused, same_weight}
 use Rattle.mid_fold.proofs.ReuseLasts.{same_divisions}
@@ -99,9 +99,16 @@ module _ (Q : ℕ → Type 0) where
       go true f = found_named ms m.by m.first m.second q h f
       go false f = absurd cc
 
+  step_named : (k : Seen) (t p n q : ℕ) → AreNamed k.1 → Q p → step_found k t p n ≡ Some q → Q q
+  step_named k t p n q h m e = go (is_zero (operand_in k.0 n) && is_address (maker_in k.1 (operand_in k.0 p))) e
+    where
+      go : (b : Bool) → cond b (Some p) (result_of k.1 (made k.0 Step t p n)) ≡ Some q → Q q
+      go true f = let same : p ≡ q = cc in subst Q same m
+      go false f = result_named k.1 (made k.0 Step t p n) q h f
+
   op_named : (k : Seen) (o : OpT ℕ) → AreNamed k.1 → Named o → Named (reused_op k o)
   op_named k o h = each_reused (λ o p. Named o → Named p) k (λ o n. n) (λ o t a b q e n. ((result_named k.1 (made k.0 (Operator o) t a b) q h e, tt), n.1))
-      (λ t p n q e m. ((result_named k.1 (made k.0 Step t p n) q h e, tt), m.1)) o
+      (λ t p n q e m. ((step_named k t p n q h m.0.0 e, tt), m.1)) o
 
   named_behind : (ms : Results) (t : ℕ) → AreNamed ms → AreNamed (results_behind ms t)
   named_behind [] t h = tt
@@ -119,8 +126,8 @@ module _ (Q : ℕ → Type 0) where
   named_with : (ms : Results) (m : Made) → AreNamed ms → Q m.target → AreNamed (with_result ms m)
   named_with ms m h q = go (is_kept ms m)
     where
-      go : (b : Bool) → AreNamed (cond b (m ∷ take (min (length ms) 7) ms) ms)
-      go true = (q, first_named (min (length ms) 7) ms h)
+      go : (b : Bool) → AreNamed (cond b (m ∷ take (min (length ms) 15) ms) ms)
+      go true = (q, first_named (min (length ms) 15) ms h)
       go false = h
 
   seen_named : (k : Seen) (o : OpT ℕ) → AreNamed k.1 → Named o → AreNamed (seen_behind k o).1
@@ -130,7 +137,7 @@ module _ (Q : ℕ → Type 0) where
   seen_named k (OneO o t a) h e = named_behind k.1 t h
   seen_named k (TwoO o t a b) h e = named_with (results_behind k.1 t) (made k.0 (Operator o) t a b) (named_behind k.1 t h) e.1.0
   seen_named k (GlobalO t n) h e = named_behind k.1 t h
-  seen_named k (LocalO t n) h e = named_behind k.1 t h
+  seen_named k (LocalO t n) h e = named_with (results_behind k.1 t) (address_of_local t) (named_behind k.1 t h) e.1.0
   seen_named k (LiteralO t n) h e = named_behind k.1 t h
   seen_named k (CardO t) h e = named_behind k.1 t h
   seen_named k (StepO t p n) h e = named_with (results_behind k.1 t) (made k.0 Step t p n) (named_behind k.1 t h) e.1.0

@@ -1,17 +1,19 @@
 // What operators and steps made, as far as it is known.
 ghost use Rattle.std.specs.Prelude.{◌≡◌, OnOk};
 ghost use Rattle.mid_fold.specs.inner.Reusing.{is_same_operator, is_same_maker, is_made_by, maker_in, is_product, is_step};
-ghost use Rattle.mid_fold.specs.inner.Reusing.{is_operator_worth, is_step_worth, is_worth, is_kept, result_in, result_of, results_behind, with_result};
+ghost use Rattle.mid_fold.specs.inner.Reusing.{is_address, is_operator_worth, is_step_worth, is_worth, is_kept, result_in};
+ghost use Rattle.mid_fold.specs.inner.Reusing.{result_of, results_behind, with_result};
 
 use crate::operand::{Operand, is_cell, is_same, is_some_cell};
 use kit_base::Memory;
 use v32_isa::Two;
 
-/// What makes a result: an operator on two words, or the step of a pointer by a word.
+/// What makes a result: an operator on two words, the step of a pointer by a word, or nothing, where it is the address of a local.
 #[derive(Clone, Copy)]
 pub(crate) enum Maker {
     Operator(Two),
     Step,
+    Local,
 }
 
 /// A temporary that has what was made of two operands.
@@ -78,6 +80,23 @@ fn is_step(maker: Option<Maker>) -> bool
     }
 }
 
+fn is_address(maker: Option<Maker>) -> bool
+    ensures { result ≡ is_address maker }
+{
+    match maker {
+        Some(Maker::Step) => true,
+        Some(Maker::Local) => true,
+        _ => false,
+    }
+}
+
+/// Whether an operand is known to be a pointer.
+pub(crate) fn has_address(results: &[Made], x: Operand) -> bool
+    ensures { result ≡ is_address (maker_in results.now x) }
+{
+    is_address(maker_in(results, x))
+}
+
 fn is_operator_worth(o: Two, x: Operand, y: Operand) -> bool
     ensures { result ≡ is_operator_worth o x y }
 {
@@ -100,6 +119,7 @@ fn is_worth(results: &[Made], m: Made) -> bool
     match m.by {
         Maker::Operator(o) => is_operator_worth(o, m.first, m.second),
         Maker::Step => is_step_worth(results, m.first, m.second),
+        Maker::Local => true,
     }
 }
 
@@ -139,12 +159,12 @@ pub(crate) fn forget_results(results: &mut Results, t: u32)
         || (is_cell(known.first, t) || is_cell(known.second, t))));
 }
 
-/// Adds what was made, beside at most seven others.
+/// Adds what was made, beside at most fifteen others.
 pub(crate) fn know_result(results: &mut Results, m: Made) -> Result<(), Memory>
     ensures { OnOk result (results.new.items ≡ with_result results.old.items m) }
 {
     if is_kept(results.as_slice(), m) {
-        results.truncate(7);
+        results.truncate(15);
         results.insert(0, m)?;
     }
     Ok(())

@@ -1,10 +1,11 @@
 // What is known at a point of temporaries and of results.
 ghost use Rattle.std.specs.Prelude.{◌≡◌, IfOk, OnOk};
 ghost use Rattle.mid_code.specs.Functions.{node};
-ghost use Rattle.mid_fold.specs.inner.Reusing.{nothing_seen, operands_behind, results_behind, with_operand, with_result, made, behind_maybe};
+ghost use Rattle.mid_fold.specs.inner.Reusing.{nothing_seen, operands_behind, results_behind, with_operand, with_result};
+ghost use Rattle.mid_fold.specs.inner.Reusing.{made, behind_maybe, is_zero, step_found, address_of_local};
 ghost use Rattle.mid_fold.specs.inner.ReusingListed.{seen, op_reused, op_seen, node_seen, or_move};
 
-use crate::made::{Made, Maker, Results, forget_results, know_result, result_of};
+use crate::made::{Made, Maker, Results, forget_results, has_address, know_result, result_of};
 use crate::operand::{Operand, Operands, forget_operands, know_operand, operand_in};
 use kit_base::Memory;
 use mid_code::{Node, Op};
@@ -53,6 +54,41 @@ fn made(known: &Known, by: Maker, t: u32, a: u32, b: u32) -> Made
     }
 }
 
+fn is_zero(x: Operand) -> bool
+    ensures { result ≡ is_zero x }
+{
+    match x {
+        Operand::Word(word) => word == 0,
+        Operand::Address(_) => false,
+        Operand::Cell(_) => false,
+    }
+}
+
+/// The temporary that has what a step makes: its pointer, where it is by 0.
+fn step_found(known: &Known, t: u32, p: u32, n: u32) -> Option<u32>
+    ensures { result ≡ step_found (seen known.now) t p n }
+{
+    let m = made(known, Maker::Step, t, p, n);
+    let results = known.results.as_slice();
+    if is_zero(m.second) && has_address(results, m.first) {
+        Some(p)
+    } else {
+        result_of(results, m)
+    }
+}
+
+/// The address of a local.
+fn address_of_local(t: u32) -> Made
+    ensures { result ≡ address_of_local t }
+{
+    Made {
+        target: t,
+        by: Maker::Local,
+        first: Operand::Word(0),
+        second: Operand::Word(0),
+    }
+}
+
 fn put_move(t: u32, o: &mut Op<u32>, q: Option<u32>)
     ensures { o.new ≡ or_move t o.old q }
 {
@@ -74,8 +110,7 @@ pub(crate) fn reuse_op(known: &Known, o: &mut Op<u32>)
         }
         Op::Step(t, p, n) => {
             let t = *t;
-            let m = made(known, Maker::Step, t, *p, *n);
-            let found = result_of(known.results.as_slice(), m);
+            let found = step_found(known, t, *p, *n);
             put_move(t, o, found);
         }
         _ => {}
@@ -127,6 +162,7 @@ fn see_op(known: &mut Known, o: &Op<u32>) -> Result<(), Memory>
             let m = made(known, Maker::Step, *t, *p, *n);
             know_made(known, m)
         }
+        Op::Local(t, _) => know_made(known, address_of_local(*t)),
         Op::Call(_, _, _) => {
             clear_known(known);
             Ok(())

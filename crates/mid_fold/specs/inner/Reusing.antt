@@ -1,16 +1,16 @@
 -- Common subexpressions: an operator on words, or a step of a pointer, that a temporary has the result of, for the same operands, becomes a move of that
--- temporary.
+-- temporary. A step by 0 becomes a move of its pointer, where that is known to be one.
 use Rattle.std.specs.Prelude.{ℕ, Bool, true, false, not, eqb, cond, ◌&&◌, ◌||◌, min, take, length, List, [], ◌∷◌, map, Option, Some, None}
 use denote.Enum.Bare.{sameb}
 use Rattle.v32_isa.specs.contracts.instruction.Two.{the_type}
 use Rattle.v32_isa.specs.declared.instruction.Two.{Two}
 use Rattle.v32_isa.specs.declared.instruction.Two.TheVariants.{AND, OR, XOR, SHL, IADD, ISUB, IMUL}
-use Rattle.mid_code.specs.Code.{OpT, ConstO, MoveO, TwoO, GlobalO, StepO, FunctionT, CodeT, target}
+use Rattle.mid_code.specs.Code.{OpT, ConstO, MoveO, TwoO, GlobalO, LocalO, StepO, FunctionT, CodeT, target}
 use Rattle.mid_code.specs.Code.{NodesT, Stop, Do, Call, Choose, Block, Loop, Leave, Again, Return}
 use Rattle.mid_fold.specs.declared.operand.Operand.{Operand}
 use Rattle.mid_fold.specs.declared.operand.Operand.TheVariants.{Word, Address, Cell}
 use Rattle.mid_fold.specs.declared.made.Maker.{Maker}
-use Rattle.mid_fold.specs.declared.made.Maker.TheVariants.{Operator, Step}
+use Rattle.mid_fold.specs.declared.made.Maker.TheVariants.{Operator, Step, Local}
 use Rattle.mid_fold.specs.declared.made.Made.{Made}
 
 -- ---- what is known at a point
@@ -19,7 +19,7 @@ use Rattle.mid_fold.specs.declared.made.Made.{Made}
 abbrev pub Operands : Type 0
 Operands = List (ℕ × Operand)
 
--- temporaries that have what an operator or a step made, the latest first
+-- temporaries that have what an operator or a step made, or the address of a local, the latest first
 abbrev pub Results : Type 0
 Results = List Made
 
@@ -118,21 +118,27 @@ is_step_worth ms x y = is_some_cell y && (is_product (maker_in ms y) || is_step 
 abbrev pub is_worth : Results → Maker → Operand → Operand → Bool
 is_worth ms (Operator o) x y = is_operator_worth o x y
 is_worth ms Step x y = is_step_worth ms x y
+is_worth ms Local x y = true
 
 abbrev pub is_kept : Results → Made → Bool
 is_kept ms m = is_worth ms m.by m.first m.second && not (is_cell m.first m.target || is_cell m.second m.target)
 
--- what was made; at most seven others are kept
+-- what was made; at most fifteen others are kept
 abbrev pub with_result : Results → Made → Results
-with_result ms m = cond (is_kept ms m) (m ∷ take (min (length ms) 7) ms) ms
+with_result ms m = cond (is_kept ms m) (m ∷ take (min (length ms) 15) ms) ms
 
 abbrev pub made : Operands → Maker → (t a b : ℕ) → Made
 made es o t a b = record { target = t; by = o; first = operand_in es a; second = operand_in es b }
+
+-- The address of a local is made of no operands.
+abbrev pub address_of_local : ℕ → Made
+address_of_local t = record { target = t; by = Local; first = Word 0; second = Word 0 }
 
 abbrev pub seen_behind : Seen → OpT ℕ → Seen
 seen_behind k (ConstO t word) = (with_operand (operands_behind k.0 t) t (Word word), results_behind k.1 t)
 seen_behind k (MoveO t a) = (with_operand (operands_behind k.0 t) t (operand_in k.0 a), results_behind k.1 t)
 seen_behind k (GlobalO t number) = (with_operand (operands_behind k.0 t) t (Address number), results_behind k.1 t)
+seen_behind k (LocalO t number) = (operands_behind k.0 t, with_result (results_behind k.1 t) (address_of_local t))
 seen_behind k (TwoO o t a b) = (operands_behind k.0 t, with_result (results_behind k.1 t) (made k.0 (Operator o) t a b))
 seen_behind k (StepO t p n) = (operands_behind k.0 t, with_result (results_behind k.1 t) (made k.0 Step t p n))
 seen_behind k o = behind_maybe k (target o)
@@ -147,9 +153,23 @@ moved_or t o (Some q) = MoveO t q
 abbrev pub result_of : Results → Made → Option ℕ
 result_of ms m = cond (is_worth ms m.by m.first m.second) (result_in ms m.by m.first m.second) None
 
+abbrev pub is_zero : Operand → Bool
+is_zero (Word w) = eqb w 0
+is_zero _ = false
+
+-- a pointer, whose offset is a word
+abbrev pub is_address : Option Maker → Bool
+is_address (Some Step) = true
+is_address (Some Local) = true
+is_address _ = false
+
+-- The temporary that has what a step makes. The step by 0 of the address of a global stays, since it goes into the load or store behind it.
+abbrev pub step_found : Seen → (t p n : ℕ) → Option ℕ
+step_found k t p n = cond (is_zero (operand_in k.0 n) && is_address (maker_in k.1 (operand_in k.0 p))) (Some p) (result_of k.1 (made k.0 Step t p n))
+
 abbrev pub reused_op : Seen → OpT ℕ → OpT ℕ
 reused_op k (TwoO o t a b) = moved_or t (TwoO o t a b) (result_of k.1 (made k.0 (Operator o) t a b))
-reused_op k (StepO t p n) = moved_or t (StepO t p n) (result_of k.1 (made k.0 Step t p n))
+reused_op k (StepO t p n) = moved_or t (StepO t p n) (step_found k t p n)
 reused_op k o = o
 
 -- A choice and a block begin with what is known before them, a loop with nothing; behind each of them, and behind a call, nothing is known.

@@ -8,7 +8,7 @@ use Rattle.mid_fold.specs.declared.operand.Operand.TheVariants.{Word, Address}
 use Rattle.mid_fold.specs.declared.made.Maker.TheVariants.{Operator, Step}
 use Rattle.mid_fold.specs.declared.seen.Known.{Known}
 use Rattle.mid_fold.specs.inner.Reusing.{Seen, nothing_seen, operand_in, operands_behind, results_behind, behind_maybe}
-use Rattle.mid_fold.specs.inner.Reusing.{with_operand, with_result, made, result_of}
+use Rattle.mid_fold.specs.inner.Reusing.{with_operand, with_result, made, result_of, address_of_local, step_found}
 
 -- what is known, as it stands in memory
 abbrev pub seen : Known → Seen
@@ -20,13 +20,14 @@ or_move t o (Some q) = op.Move t q
 
 abbrev pub op_reused : Seen → Op ℕ → Op ℕ
 op_reused k (op.Two o t a b) = or_move t (op.Two o t a b) (result_of k.1 (made k.0 (Operator o) t a b))
-op_reused k (op.Step t p n) = or_move t (op.Step t p n) (result_of k.1 (made k.0 Step t p n))
+op_reused k (op.Step t p n) = or_move t (op.Step t p n) (step_found k t p n)
 op_reused k o = o
 
 abbrev pub op_seen : Seen → Op ℕ → Seen
 op_seen k (op.Const t word) = (with_operand (operands_behind k.0 t) t (Word word), results_behind k.1 t)
 op_seen k (op.Move t a) = (with_operand (operands_behind k.0 t) t (operand_in k.0 a), results_behind k.1 t)
 op_seen k (op.Global t number) = (with_operand (operands_behind k.0 t) t (Address number), results_behind k.1 t)
+op_seen k (op.Local t number) = (operands_behind k.0 t, with_result (results_behind k.1 t) (address_of_local t))
 op_seen k (op.Two o t a b) = (operands_behind k.0 t, with_result (results_behind k.1 t) (made k.0 (Operator o) t a b))
 op_seen k (op.Step t p n) = (operands_behind k.0 t, with_result (results_behind k.1 t) (made k.0 Step t p n))
 op_seen k (op.Call t f args) = nothing_seen

@@ -4,7 +4,7 @@ use Rattle.std.proofs.lemmas.Bool.Decides.{nat_tests}
 use Rattle.mid_code.specs.declared.node.Op.TheVariants as o
 use Rattle.mid_code.specs.Functions.{DoN, LoopN, listed}
 use Rattle.lower_trees.specs.Pieces.{Listing, listing}
-use Rattle.lower_trees.specs.Parts.{count, one, cell, to, item, copy_turn, zero_turn, copied, zeroed, moved_by}
+use Rattle.lower_trees.specs.Parts.{count, one, cell, to, item, copy_turn, zero_turn, copied, moved_by}
 use Rattle.lower_trees.specs.Initialisers.{part_at, cell_filled, part_zeroed}
 
 is_zero : (k : ℕ) → (k == 0) ≡ true → k ≡ zero
@@ -20,12 +20,6 @@ pub copied_some : (l p : Listing) (size : ℕ) → (size == 0) ≡ false → p �
     → p ≡ l ++ listing (copied size)
 copied_some l p zero e f = absurd cc
 copied_some l p (suc left) e f = f
-
-pub zeroed_some : (l p : Listing) (size : ℕ) → (size == 0) ≡ false
-    → p ≡ l ++ (DoN (o.Const count size) ∷ DoN (o.Const one 1) ∷ DoN (o.Const cell 0) ∷ LoopN (listed (listing zero_turn)) ∷ [])
-    → p ≡ l ++ listing (zeroed size)
-zeroed_some l p zero e f = absurd cc
-zeroed_some l p (suc left) e f = f
 
 pub at_none : (l q : Listing) (p offset : ℕ) → (offset == 0) ≡ true → q ≡ l ++ (DoN (o.Move to p) ∷ []) → q ≡ l ++ listing (part_at p offset)
 at_none l q p offset e f = f ∙ ap (λ k. l ++ listing (part_at p k)) (sym (is_zero offset e))
@@ -45,7 +39,7 @@ filled_some l q p (suc left) e f = f
 pub part_none : (l : Listing) (p offset size : ℕ) → (size == 0) ≡ true → l ≡ l ++ listing (part_zeroed p offset size)
 part_none l p offset size e = sym (append-nil l) ∙ ap (λ k. l ++ listing (part_zeroed p offset k)) (sym (is_zero size e))
 
-pub part_some : (l q : Listing) (p offset size : ℕ) → (size == 0) ≡ false → q ≡ l ++ (listing (part_at p offset) ++ listing (zeroed size))
+pub part_some : (l q : Listing) (p offset size : ℕ) → (size == 0) ≡ false → q ≡ l ++ (listing (part_at p offset) ++ (DoN (o.Const count size) ∷ DoN (o.Const one 1) ∷ DoN (o.Const cell 0) ∷ LoopN (listed (listing zero_turn)) ∷ []))
     → q ≡ l ++ listing (part_zeroed p offset size)
 part_some l q p offset zero e f = absurd cc
 part_some l q p offset (suc left) e f = f

@@ -1,14 +1,15 @@
 // Nodes that are added, and loops over cells.
 ghost use Rattle.std.specs.Prelude.{◌≡◌, ◌==◌, ◌++◌, ◌∷◌, [], false, map, IfOk, OnOk};
-ghost use Rattle.mid_code.specs.Functions.{DoN, ChooseN, listed, node};
-ghost use Rattle.lower_trees.specs.Pieces.{DoP, listing};
+ghost use Rattle.mid_code.specs.Functions.{DoN, ChooseN, LoopN, listed, node};
+ghost use Rattle.lower_trees.specs.Pieces.{◌▸◌, DoP, LoopP, AgainP};
 ghost use Rattle.lower_trees.specs.inner.Adding.{AddsCode};
-ghost use Rattle.lower_trees.specs.Parts.{count, one, cell, from, to, copy_turn, zero_turn, copied, zeroed, moved_by, structure_read, stored, made};
+ghost use Rattle.lower_trees.specs.Parts.{count, one, cell, from, to, copy_turn, zero_turn, copied, moved_by, structure_read, stored, made};
 ghost use Rattle.c_types.specs.View.{ctype};
 ghost use Rattle.lower_trees.specs.View.{shape_of};
 
 use crate::output::Nodes;
 use crate::reading::Reading;
+use c_exprs::keeping;
 use c_types::{CType, is_structure};
 use kit_base::{Memory, Seq};
 use mid_code::{Node, Op};
@@ -36,12 +37,19 @@ pub(crate) const RESULT_AT: u32 = 8;
 /// The first argument.
 pub(crate) const FIRST_PARAM: u32 = 16;
 
+/// Adds a node.
+pub(crate) fn add(nodes: &mut Nodes, added: Node<u32>) -> Result<(), Memory>
+    ensures { OnOk result (map node nodes.new.items ≡ map node nodes.old.items ++ node added ∷ []) }
+{
+    nodes.push(added)?;
+    Ok(())
+}
+
 /// Adds an operation.
 pub(crate) fn put(nodes: &mut Nodes, o: Op<u32>) -> Result<(), Memory>
     ensures { OnOk result (AddsCode nodes.old nodes.new (DoP o)) }
 {
-    nodes.push(Node::Do(o))?;
-    Ok(())
+    add(nodes, Node::Do(o))
 }
 
 /// An operation by itself.
@@ -63,46 +71,85 @@ pub(crate) fn put_choice(
     ensures { OnOk result (map node nodes.new.items ≡ map node nodes.old.items
         ++ ChooseN t (listed (map node first.items)) (listed (map node second.items)) ∷ []) }
 {
-    nodes.push(Node::Choose(t, Seq::from_vec(first), Seq::from_vec(second)))?;
-    Ok(())
+    add(
+        nodes,
+        Node::Choose(t, Seq::from_vec(first), Seq::from_vec(second)),
+    )
+}
+
+/// Adds a loop.
+pub(crate) fn put_loop(nodes: &mut Nodes, turn: Nodes) -> Result<(), Memory>
+    ensures { OnOk result (map node nodes.new.items ≡ map node nodes.old.items ++ LoopN (listed (map node turn.items)) ∷ []) }
+{
+    add(nodes, Node::Loop(Seq::from_vec(turn)))
+}
+
+/// The next cell is written, in the next turn.
+fn go_on(nodes: &mut Nodes) -> Result<(), Memory>
+    ensures { OnOk result (AddsCode nodes.old nodes.new (DoP (Op.Step to to one) ▸ AgainP 0)) }
+{
+    put(nodes, Op::Step(TO, TO, ONE))?;
+    add(nodes, Node::Again(0))
+}
+
+/// The next cell is read and written, in the next turn.
+fn go_on_reading(nodes: &mut Nodes) -> Result<(), Memory>
+    ensures { OnOk result (AddsCode nodes.old nodes.new (DoP (Op.Step from from one) ▸ DoP (Op.Step to to one) ▸ AgainP 0)) }
+{
+    put(nodes, Op::Step(FROM, FROM, ONE))?;
+    go_on(nodes)
+}
+
+/// One cell less is left; where one is, the turn goes on with these nodes.
+fn count_cell(alloc: Global, nodes: &mut Nodes, further: Nodes) -> Result<(), Memory>
+    ensures { OnOk result (map node nodes.new.items ≡ map node nodes.old.items
+        ++ (DoN (Op.Two Two.ISUB count count one) ∷ ChooseN count (listed (map node further.items)) (listed []) ∷ [])) }
+{
+    let counted = put(nodes, Op::Two(Two::ISUB, COUNT, COUNT, ONE));
+    let (further, _) = keeping(further, counted)?;
+    put_choice(nodes, COUNT, further, Vec::new(alloc))
 }
 
 /// One turn per cell that is copied.
-fn copy_turn(alloc: Global) -> Result<Nodes, Memory>
-    ensures { IfOk result (λ r. map node r.items ≡ listing copy_turn) }
+fn copy_turn(alloc: Global, nodes: &mut Nodes) -> Result<(), Memory>
+    ensures { OnOk result (AddsCode nodes.old nodes.new copy_turn) }
 {
+    put(nodes, Op::Load(CELL, FROM))?;
+    put(nodes, Op::Store(TO, CELL))?;
     let mut further = Vec::new(alloc);
-    put(&mut further, Op::Step(FROM, FROM, ONE))?;
-    put(&mut further, Op::Step(TO, TO, ONE))?;
-    further.push(Node::Again(0))?;
-    let mut turn = Vec::new(alloc);
-    put(&mut turn, Op::Load(CELL, FROM))?;
-    put(&mut turn, Op::Store(TO, CELL))?;
-    put(&mut turn, Op::Two(Two::ISUB, COUNT, COUNT, ONE))?;
-    turn.push(Node::Choose(
-        COUNT,
-        Seq::from_vec(further),
-        Seq::from_vec(Vec::new(alloc)),
-    ))?;
-    Ok(turn)
+    let answer = go_on_reading(&mut further);
+    let (further, _) = keeping(further, answer)?;
+    count_cell(alloc, nodes, further)
 }
 
 /// One turn per cell that is set to 0.
-fn zero_turn(alloc: Global) -> Result<Nodes, Memory>
-    ensures { IfOk result (λ r. map node r.items ≡ listing zero_turn) }
+fn zero_turn(alloc: Global, nodes: &mut Nodes) -> Result<(), Memory>
+    ensures { OnOk result (AddsCode nodes.old nodes.new zero_turn) }
 {
+    put(nodes, Op::Store(TO, CELL))?;
     let mut further = Vec::new(alloc);
-    put(&mut further, Op::Step(TO, TO, ONE))?;
-    further.push(Node::Again(0))?;
+    let answer = go_on(&mut further);
+    let (further, _) = keeping(further, answer)?;
+    count_cell(alloc, nodes, further)
+}
+
+/// So many cells are left to be gone over.
+fn begin_cells(nodes: &mut Nodes, size: u32) -> Result<(), Memory>
+    ensures { OnOk result (AddsCode nodes.old nodes.new (DoP (Op.Const count size) ▸ DoP (Op.Const one 1))) }
+{
+    put(nodes, Op::Const(COUNT, size))?;
+    put(nodes, Op::Const(ONE, 1))
+}
+
+/// Copies `size` cells, at least one.
+fn copy_some(alloc: Global, nodes: &mut Nodes, size: u32) -> Result<(), Memory>
+    ensures { OnOk result (AddsCode nodes.old nodes.new (DoP (Op.Const count size) ▸ DoP (Op.Const one 1) ▸ LoopP copy_turn)) }
+{
+    begin_cells(nodes, size)?;
     let mut turn = Vec::new(alloc);
-    put(&mut turn, Op::Store(TO, CELL))?;
-    put(&mut turn, Op::Two(Two::ISUB, COUNT, COUNT, ONE))?;
-    turn.push(Node::Choose(
-        COUNT,
-        Seq::from_vec(further),
-        Seq::from_vec(Vec::new(alloc)),
-    ))?;
-    Ok(turn)
+    let answer = copy_turn(alloc, &mut turn);
+    let (turn, _) = keeping(turn, answer)?;
+    put_loop(nodes, turn)
 }
 
 /// Copies `size` cells.
@@ -111,27 +158,22 @@ pub(crate) fn copy_cells(alloc: Global, nodes: &mut Nodes, size: u32) -> Result<
     ensures { OnOk result (AddsCode nodes.old nodes.new (copied size)) }
 {
     if size == 0 {
-        return Ok(());
+        Ok(())
+    } else {
+        copy_some(alloc, nodes, size)
     }
-    put(nodes, Op::Const(COUNT, size))?;
-    put(nodes, Op::Const(ONE, 1))?;
-    let turn = copy_turn(alloc)?;
-    nodes.push(Node::Loop(Seq::from_vec(turn)))?;
-    Ok(())
 }
 
 /// Sets `size` cells to 0, at least one.
-#[tactic(auto, using(crate::proofs::Filled::zeroed_some))]
 pub(crate) fn zero_cells(alloc: Global, nodes: &mut Nodes, size: u32) -> Result<(), Memory>
-    requires some { (size == 0) ≡ false }
-    ensures { OnOk result (AddsCode nodes.old nodes.new (zeroed size)) }
+    ensures { OnOk result (AddsCode nodes.old nodes.new (DoP (Op.Const count size) ▸ DoP (Op.Const one 1) ▸ DoP (Op.Const cell 0) ▸ LoopP zero_turn)) }
 {
-    put(nodes, Op::Const(COUNT, size))?;
-    put(nodes, Op::Const(ONE, 1))?;
+    begin_cells(nodes, size)?;
     put(nodes, Op::Const(CELL, 0))?;
-    let turn = zero_turn(alloc)?;
-    nodes.push(Node::Loop(Seq::from_vec(turn)))?;
-    Ok(())
+    let mut turn = Vec::new(alloc);
+    let answer = zero_turn(alloc, &mut turn);
+    let (turn, _) = keeping(turn, answer)?;
+    put_loop(nodes, turn)
 }
 
 /// Puts the pointer in `p`, moved on by `offset` words, into `t`.

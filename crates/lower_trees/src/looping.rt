@@ -3,7 +3,7 @@ ghost use Rattle.std.specs.Prelude.{◌≡◌, ◌≤◌, ◌+◌, ◌++◌, ◌
 ghost use Rattle.c_types.specs.View.{ctype, texpr, tarm, tarms};
 ghost use Rattle.mid_code.specs.Functions.{DoN, BlockN, LoopN, ChooseN, LeaveN, AgainN, listed, node};
 ghost use Rattle.lower_trees.specs.Counts.{maybe_temps, maybe_sizes, value_temps, value_sizes};
-ghost use Rattle.lower_trees.specs.Pieces.{◌▸◌, DoP, BlockP, ReturnP, listing};
+ghost use Rattle.lower_trees.specs.Pieces.{◌▸◌, DoP, BlockP, LeaveP, ReturnP, listing};
 ghost use Rattle.lower_trees.specs.Parts.{converted, one};
 ghost use Rattle.lower_trees.specs.Expressions.{second, low_value, low_test};
 ghost use Rattle.lower_trees.specs.Statements.{further, labels_before_default, depth, jump, tested_first, low_dropped, low_match, returned};
@@ -13,7 +13,9 @@ ghost use Rattle.lower_trees.specs.inner.MaybeStatements.{maybe_texpr};
 ghost use Rattle.lower_trees.specs.Flags.{is_flag};
 ghost use Rattle.lower_trees.specs.View.{shape_of, jump_of};
 
-use crate::cells::{FROM, ONE, OTHER, RESULT_AT, TO, alone, copy_cells, put, put_choice};
+use crate::cells::{
+    FROM, ONE, OTHER, RESULT_AT, TO, add, alone, copy_cells, put, put_choice, put_loop,
+};
 use crate::expressions::{test, value};
 use crate::jump::JumpTo;
 use crate::kinds::is_flag;
@@ -44,26 +46,23 @@ pub(crate) fn jump(nodes: &mut Nodes, j: JumpTo) -> Result<(), Memory>
     ensures { OnOk result (AddsCode nodes.old nodes.new (jump (jump_of j))) }
 {
     match j {
-        JumpTo::End(k) => nodes.push(Node::Leave(k))?,
-        JumpTo::Turn(k) => nodes.push(Node::Again(k))?,
+        JumpTo::End(k) => add(nodes, Node::Leave(k)),
+        JumpTo::Turn(k) => add(nodes, Node::Again(k)),
     }
-    Ok(())
 }
 
 /// Returns the word in a temporary, or nothing.
 pub(crate) fn put_return(nodes: &mut Nodes, p: Option<u32>) -> Result<(), Memory>
     ensures { OnOk result (AddsCode nodes.old nodes.new (ReturnP p)) }
 {
-    nodes.push(Node::Return(p))?;
-    Ok(())
+    add(nodes, Node::Return(p))
 }
 
 /// Adds a block of nodes.
 pub(crate) fn put_block(nodes: &mut Nodes, inside: Nodes) -> Result<(), Memory>
     ensures { OnOk result (map node nodes.new.items ≡ map node nodes.old.items ++ BlockN (listed (map node inside.items)) ∷ []) }
 {
-    nodes.push(Node::Block(Seq::from_vec(inside)))?;
-    Ok(())
+    add(nodes, Node::Block(Seq::from_vec(inside)))
 }
 
 /// Computes a condition into the first free temporary.
@@ -126,16 +125,9 @@ fn with_next(turn: Nodes) -> Result<Nodes, Memory>
     ensures { IfOk result (λ r. map node r.items ≡ map node turn.items ++ AgainN 0 ∷ []) }
 {
     let mut turn = turn;
-    turn.push(Node::Again(0))?;
+    let answer = add(&mut turn, Node::Again(0));
+    let (turn, _) = keeping(turn, answer)?;
     Ok(turn)
-}
-
-/// Adds a loop.
-fn put_loop(nodes: &mut Nodes, turn: Nodes) -> Result<(), Memory>
-    ensures { OnOk result (map node nodes.new.items ≡ map node nodes.old.items ++ LoopN (listed (map node turn.items)) ∷ []) }
-{
-    nodes.push(Node::Loop(Seq::from_vec(turn)))?;
-    Ok(())
 }
 
 /// Adds a loop whose turns go on while the word in t holds; the condition stands in `turn` and the body in `inside`.
@@ -155,6 +147,20 @@ pub(crate) fn close_while(
     put_loop(nodes, turn)
 }
 
+/// Adds the nodes in `inside` and then the condition, as a turn that goes on while it holds.
+fn put_turn(s: &Reading<'_>, x: &TExpr, inside: Nodes, out: &mut Output) -> Result<(), Memory>
+    requires room { HasRoom out.old (value_temps (texpr x.now) + 1) (value_sizes (shape_of s.now) (texpr x.now)) }
+    ensures adds { OnOk result (AddsNodes out.old out.new (λ n m. (BlockN (listed (map node inside.items)) ∷ [])
+        ++ listing (low_test (shape_of s.now) (texpr x.now) n (n + 1) m) ++ (ChooseN n (listed (AgainN 0 ∷ [])) (listed []) ∷ []))
+        (value_temps (texpr x.now) + 1) (value_sizes (shape_of s.now) (texpr x.now))) }
+{
+    put_block(&mut out.nodes, inside)?;
+    let t = out.next;
+    condition(s, x, out)?;
+    let again = with_next(Vec::new(s.alloc))?;
+    put_choice(&mut out.nodes, t, again, Vec::new(s.alloc))
+}
+
 /// Adds a loop whose turns are the nodes in `inside` and then the condition.
 pub(crate) fn close_do_while(
     s: &Reading<'_>,
@@ -167,16 +173,10 @@ pub(crate) fn close_do_while(
         ++ listing (low_test (shape_of s.now) (texpr x.now) n (n + 1) m) ++ (ChooseN n (listed (AgainN 0 ∷ [])) (listed []) ∷ []))) ∷ [])
         (value_temps (texpr x.now) + 1) (value_sizes (shape_of s.now) (texpr x.now))) }
 {
-    let mut turn = Vec::new(s.alloc);
-    put_block(&mut turn, inside)?;
-    let t = out.next;
-    let before = mem::replace(&mut out.nodes, turn);
-    let answer = condition(s, x, out);
+    let before = mem::replace(&mut out.nodes, Vec::new(s.alloc));
+    let answer = put_turn(s, x, inside, out);
     let turn = mem::replace(&mut out.nodes, before);
     let (turn, _) = keeping(turn, answer)?;
-    let (turn, again) = keeping(turn, with_next(Vec::new(s.alloc)))?;
-    let mut turn = turn;
-    put_choice(&mut turn, t, again, Vec::new(s.alloc))?;
     put_loop(&mut out.nodes, turn)
 }
 
@@ -187,6 +187,23 @@ pub(crate) struct Turn {
     pub(crate) temporary: u32,
     pub(crate) condition: Nodes,
     pub(crate) body: Nodes,
+}
+
+/// Adds the body and the step of a turn, which goes on with the next one.
+fn put_rest(
+    s: &Reading<'_>,
+    body: Nodes,
+    step: Option<&TExpr>,
+    out: &mut Output,
+) -> Result<(), Memory>
+    requires room { HasRoom out.old (maybe_temps (maybe_texpr step)) (maybe_sizes (shape_of s.now) (maybe_texpr step)) }
+    ensures adds { OnOk result (AddsNodes out.old out.new
+        (λ n m. turn_of (map node body.items) (listing (low_dropped (shape_of s.now) (maybe_texpr step.entry) n m)))
+        (maybe_temps (maybe_texpr step.entry)) (maybe_sizes (shape_of s.now) (maybe_texpr step.entry))) }
+{
+    put_block(&mut out.nodes, body)?;
+    drop_value(s, step, out)?;
+    add(&mut out.nodes, Node::Again(0))
 }
 
 /// A turn that ends with its body and then the step.
@@ -202,13 +219,11 @@ fn end_turn(
         ++ turn_of (map node body.items) (listing (low_dropped (shape_of s.now) (maybe_texpr step.entry) n m)))
         (maybe_temps (maybe_texpr step.entry)) (maybe_sizes (shape_of s.now) (maybe_texpr step.entry))) }
 {
-    let mut turn = turn;
-    put_block(&mut turn, body)?;
     let before = mem::replace(&mut out.nodes, turn);
-    let answer = drop_value(s, step, out);
+    let answer = put_rest(s, body, step, out);
     let turn = mem::replace(&mut out.nodes, before);
     let (turn, _) = keeping(turn, answer)?;
-    with_next(turn)
+    Ok(turn)
 }
 
 /// Adds a loop of such turns, each of which ends with this step.
@@ -257,39 +272,46 @@ fn labels_before_default(arms: &[TArm]) -> u32
     count
 }
 
+/// A label was found that comes behind i others.
+fn leave_with(nodes: &mut Nodes, t: u32, i: u32) -> Result<(), Memory>
+    ensures { OnOk result (AddsCode nodes.old nodes.new (DoP (Op.Const t i) ▸ LeaveP 0)) }
+{
+    put(nodes, Op::Const(t, i))?;
+    add(nodes, Node::Leave(0))
+}
+
 /// The word in t is equal to a label, which comes behind i others.
 fn match_label(alloc: Global, nodes: &mut Nodes, t: u32, i: u32, label: u32) -> Result<(), Memory>
     ensures { OnOk result (map node nodes.new.items ≡ map node nodes.old.items
         ++ (DoN (Op.Const OTHER label) ∷ DoN (Op.Two Two.IEQ OTHER t OTHER) ∷ ChooseN OTHER (listed (DoN (Op.Const t i) ∷ LeaveN 0 ∷ [])) (listed []) ∷ [])) }
 {
-    let mut found = Vec::new(alloc);
-    put(&mut found, Op::Const(t, i))?;
-    found.push(Node::Leave(0))?;
     put(nodes, Op::Const(OTHER, label))?;
     put(nodes, Op::Two(Two::IEQ, OTHER, t, OTHER))?;
+    let mut found = Vec::new(alloc);
+    let answer = leave_with(&mut found, t, i);
+    let (found, _) = keeping(found, answer)?;
     put_choice(nodes, OTHER, found, Vec::new(alloc))
 }
 
 /// The word in t is held against the labels of the arms; t takes how many labels come before the one that is chosen.
-fn match_arms(alloc: Global, t: u32, arms: &[TArm]) -> Result<Nodes, Memory>
+fn match_arms(alloc: Global, nodes: &mut Nodes, t: u32, arms: &[TArm]) -> Result<(), Memory>
     requires { length arms.now ≤ 1000000 }
-    ensures { IfOk result (λ r. map node r.items ≡ listing (low_match t 0 (labels_before_default (tarms (map tarm arms.now))) (tarms (map tarm arms.now)))) }
+    ensures { OnOk result (AddsCode nodes.old nodes.new
+        (low_match t 0 (labels_before_default (tarms (map tarm arms.now))) (tarms (map tarm arms.now)))) }
 {
     let before = labels_before_default(arms);
-    let mut out = Vec::new(alloc);
     let mut i = 0;
     'arms: for arm in arms {
         match arm {
             TArm::Case(label) => {
-                match_label(alloc, &mut out, t, i, *label)?;
+                match_label(alloc, nodes, t, i, *label)?;
                 i += 1;
             }
             TArm::Default => i += 1,
             TArm::Stmt(_) => {}
         }
     }
-    put(&mut out, Op::Const(t, before))?;
-    Ok(out)
+    put(nodes, Op::Const(t, before))
 }
 
 /// Adds the tests of a switch, whose value stands in t, and the 1 that its arms count down by.
@@ -303,7 +325,9 @@ pub(crate) fn put_tests(
     ensures { OnOk result (AddsCode nodes.old nodes.new
         (BlockP (low_match t 0 (labels_before_default (tarms (map tarm arms.now))) (tarms (map tarm arms.now))) ▸ DoP (Op.Const one 1))) }
 {
-    let tests = match_arms(alloc, t, arms)?;
+    let mut tests = Vec::new(alloc);
+    let answer = match_arms(alloc, &mut tests, t, arms);
+    let (tests, _) = keeping(tests, answer)?;
     put_block(nodes, tests)?;
     put(nodes, Op::Const(ONE, 1))
 }

@@ -7,6 +7,6 @@ use Rattle.lower_trees.proofs.looping.match_arms.Given as goal
 
 abbrev pub invariant-arms : goal.invariant-arms
 invariant-arms l = record {
-  nodes : map node l.out.items ++ listing (low_match l.t l.i l.before (tarms (map tarm (drop l.arm-index l.arms)))) ≡ listing (low_match l.t 0 l.before (tarms (map tarm l.arms)));
+  nodes : map node l.nodes.items ++ listing (low_match l.t l.i l.before (tarms (map tarm (drop l.arm-index l.arms)))) ≡ map node l.initial.nodes.items ++ listing (low_match l.t 0 l.before (tarms (map tarm l.arms)));
   few : l.i ≤ l.arm-index;
 }

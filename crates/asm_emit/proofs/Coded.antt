@@ -18,7 +18,7 @@ use Rattle.mid_code.specs.declared.placed.Where.{Where}
 use Rattle.mid_code.specs.declared.placed.Where.TheVariants.{Reg, Slot}
 use Rattle.mid_code.specs.Code.{OpT, ConstO, NullO, MoveO, OneO, TwoO, GlobalO, LocalO, LiteralO, CardO, StepO, ApartO, PtrTestO, LoadO, StoreO, FreshO, EndO, InO, OutO, WaitO, HaltO, NodesT, Stop, Do, Call, Choose, Block, Loop, Leave, Again, Return}
 use Rattle.asm_laws.specs.Moves.{Move, in_order}
-use Rattle.asm_laws.specs.Operations.{Frame, Whole, keep, fetches, keeps, keeps_some, hand, brings, takes, aim, lays, moves, changes, is_direct, in_place, apart, is_turned, turned_or_apart, computes, slot_arg, slot_args, moved_items, args_items, call_items, op_items, in_one, one_or_more, more_of, giving, word_put, put_item, puts_items, group_items, giving_left, next_items, next_more}
+use Rattle.asm_laws.specs.Operations.{Frame, Whole, keep, fetches, keeps, keeps_some, hand, brings, takes, aim, lays, moves, changes, is_direct, in_place, apart, is_turned, turned_or_apart, computes, slot_arg, slot_args, moved_items, args_items, call_items, op_items, in_one, one_or_more, giving, put_items, puts_items, group_items, giving_left, next_items, next_more}
 use Rattle.asm_laws.specs.Pieces.{register, is_in, turned}
 use Rattle.asm_laws.specs.Framing.{frame_made, frame_gone}
 use Rattle.asm_laws.specs.declared.behind.Behind.{Behind}
@@ -26,7 +26,8 @@ use Rattle.asm_laws.specs.declared.behind.Behind.TheVariants.{Other, End, Turn}
 use Rattle.asm_laws.specs.inner.Emitted.{labels, jump, jump_unless, mark, first_part, second_part, choice, alone, left_to, ends, jump_when, is_stop, enclosed, leaving, left_by, items_past, code_items, call_item, own_items, exit_items, inside, is_end, is_turn, again, rotated, looped, is_tested, part_items, test_items, enclosing}
 use Rattle.asm_emit.specs.EmittedFrom.{IsCode}
 use Rattle.asm_laws.specs.declared.copying.Copying.{Copying}
-use Rattle.asm_laws.specs.Copies.{copy_at, copy_or, items_from}
+use Rattle.asm_laws.specs.Copies.{goes_to, move_items, block_of, back_items, copy_at, copy_or}
+use Rattle.asm_laws.proofs.Putting.{moves_are}
 use Rattle.asm_laws.proofs.InOne.{TakesWord, one_or_more_is, group_is, next_is}
 
 abbrev AreCode : List AsmItem → Type 0
@@ -150,33 +151,36 @@ module _ (W : Whole) (F : Frame) where
   one_or_more_code : (o : OpT Where) (c : NodesT Where) → AreCode (one_or_more W F o (in_one W F o c))
   one_or_more_code o c = one_or_more_is W F AreCode (λ v. Unit {0}) o c (λ t n e. (tt, tt, λ x y. tt)) (λ t k e. (tt, tt, λ x y. tt)) (op_code o) taking_code (λ p r i lt h. (fetch_code F p r, taking_code i h), λ r q i lr lq h. (tt, taking_code i h))
 
-  puts_code : (c : NodesT Where) (k : ℕ) → AreCode (puts_items W c k)
-  puts_code (Do o c) (suc k) = joined (put_item (word_put W o)) (puts_items W c k) (put (word_put W o)) (puts_code c k)
-    where
-      put : (x : Option (ℕ × ℕ)) → AreCode (put_item x)
-      put None = tt
-      put (Some (r, w)) = (tt, tt)
-  puts_code (Do o c) zero = tt
-  puts_code Stop k = tt
-  puts_code (Call t g args c) k = tt
-  puts_code (Choose p a b c) k = tt
-  puts_code (Block b c) k = tt
-  puts_code (Loop b c) k = tt
-  puts_code (Leave j c) k = tt
-  puts_code (Again j c) k = tt
-  puts_code (Return p c) k = tt
+  put_code : (y : Copying) (o : OpT Where) → AreCode (put_items W F y o)
+  put_code y (ConstO (Reg r) n) = (tt, tt)
+  put_code y (GlobalO (Reg r) k) = (tt, tt)
+  put_code y (LocalO (Reg r) k) = (tt, tt)
+  put_code y (MoveO (Reg r) p) = moves_code F (Reg (goes_to y r)) p
+  put_code y _ = tt
+
+  puts_code : (y : Copying) (c : NodesT Where) (k : ℕ) → AreCode (puts_items W F y c k)
+  puts_code y (Do o c) (suc k) = joined (put_items W F y o) (puts_items W F y c k) (put_code y o) (puts_code y c k)
+  puts_code y (Do o c) zero = tt
+  puts_code y Stop k = tt
+  puts_code y (Call t g args c) k = tt
+  puts_code y (Choose p a b c) k = tt
+  puts_code y (Block b c) k = tt
+  puts_code y (Loop b c) k = tt
+  puts_code y (Leave j c) k = tt
+  puts_code y (Again j c) k = tt
+  puts_code y (Return p c) k = tt
 
   group_code : (o : OpT Where) (c : NodesT Where) → AreCode (group_items W F o c)
-  group_code o c = group_is W F AreCode o c (one_or_more_code o c) (λ k e. puts_code (Do o c) k)
+  group_code o c = group_is W F AreCode o c (one_or_more_code o c) (λ k y e. joined (puts_items W F y (Do o c) k) (move_items y (Do o c)) (puts_code y (Do o c) k) (moves_are AreCode tt joined (λ t r. (tt, tt)) y (Do o c)))
 
   next_code : (o : OpT Where) (c : NodesT Where) → AreCode (next_items W F o c)
   next_code o c =
       next_is W F AreCode (λ v. Unit {0}) o c (λ t n e. (tt, tt, λ x y. tt)) (λ t k e. (tt, tt, λ x y. tt)) taking_code (λ p r i lt h. (fetch_code F p r, taking_code i h), λ r q i lr lq h. (tt, taking_code i h))
       (λ u t a b e. (fetch_code F a 9, brought_code F b 10 _ (tt, tt))) (group_code o c)
 
-  copy_code : (f : Option ℕ) (y : Copying) → AreCode (items_from f y)
-  copy_code None y = (tt, (tt, (tt, (tt, (tt, (tt, tt))))))
-  copy_code (Some f) y = (tt, (tt, (tt, (tt, (tt, (tt, (tt, (tt, tt))))))))
+  copy_code : (f : Option ℕ) (y : Copying) → AreCode (item.Op (instr.Plain (block_of f)) ∷ back_items f y)
+  copy_code None y = (tt, (tt, (tt, tt)))
+  copy_code (Some f) y = (tt, (tt, (tt, (tt, (tt, tt)))))
 
   copied_code : (y : Option Copying) (xs : List AsmItem) → AreCode xs → AreCode (copy_or y xs)
   copied_code None xs h = h

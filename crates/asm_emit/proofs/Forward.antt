@@ -23,7 +23,9 @@ use Rattle.mid_code.specs.Calls.{loops, CallsTo}
 use Rattle.asm_laws.specs.Names.{jump_label, function_label}
 use Rattle.asm_laws.specs.Labelled.{HasLabel}
 use Rattle.asm_laws.specs.Moves.{Move, in_order}
-use Rattle.asm_laws.specs.Operations.{Frame, Whole, keep, fetches, keeps, keeps_some, hand, brings, takes, aim, lays, moves, changes, is_direct, in_place, apart, is_turned, turned_or_apart, computes, slot_arg, slot_args, moved_items, args_items, call_items, op_items, in_one, one_or_more, more_of, giving, word_put, put_item, puts_items, group_items, giving_left, next_items, next_more}
+use Rattle.asm_laws.specs.declared.copying.Copying.{Copying}
+use Rattle.asm_laws.specs.Copies.{goes_to, is_put, source, source_put, move_item, move_items}
+use Rattle.asm_laws.specs.Operations.{Frame, Whole, keep, fetches, keeps, keeps_some, hand, brings, takes, aim, lays, moves, changes, is_direct, in_place, apart, is_turned, turned_or_apart, computes, slot_arg, slot_args, moved_items, args_items, call_items, op_items, in_one, one_or_more, giving, put_items, puts_items, group_items, giving_left, next_items, next_more}
 use Rattle.asm_laws.specs.Pieces.{register, is_in, turned}
 use Rattle.asm_laws.specs.Framing.{frame_made, frame_gone}
 use Rattle.asm_laws.specs.declared.behind.Behind.{Behind}
@@ -165,24 +167,38 @@ module _ (names : List (List ℕ)) (body : NodesT Where) where
     one_or_more_ahead o c later ok =
         one_or_more_is W F (λ xs. Ahead xs later) (λ v. Unit {0}) o c (λ t n e. (tt, tt, λ x y. tt)) (λ t k e. (tt, tt, λ x y. tt)) (op_ahead o later ok) (taking_ahead later) (λ p r i lt h. (fetch_ahead F p r _, taking_ahead later i h), λ r q i lr lq h. (tt, taking_ahead later i h))
 
-    puts_go : (c : NodesT Where) (k : ℕ) (later : List AsmItem) → Ahead (puts_items W c k) later
-    puts_go (Do o c) (suc k) later = ahead_append (put_item (word_put W o)) (puts_items W c k) later (put (word_put W o) _) (puts_go c k later)
-      where
-        put : (y : Option (ℕ × ℕ)) (later : List AsmItem) → Ahead (put_item y) later
-        put None later = tt
-        put (Some (r, w)) later = (tt, tt)
-    puts_go (Do o c) zero later = tt
-    puts_go Stop k later = tt
-    puts_go (Call t g args c) k later = tt
-    puts_go (Choose p a b c) k later = tt
-    puts_go (Block b c) k later = tt
-    puts_go (Loop b c) k later = tt
-    puts_go (Leave j c) k later = tt
-    puts_go (Again j c) k later = tt
-    puts_go (Return p c) k later = tt
+    put_go : (y : Copying) (o : OpT Where) (later : List AsmItem) → Ahead (put_items W F y o) later
+    put_go y (ConstO (Reg r) n) later = (tt, tt)
+    put_go y (GlobalO (Reg r) k) later = (tt, tt)
+    put_go y (LocalO (Reg r) k) later = (tt, tt)
+    put_go y (MoveO (Reg r) p) later = moves_ahead F (Reg (goes_to y r)) p later
+    put_go y _ later = tt
+
+    puts_go : (y : Copying) (c : NodesT Where) (k : ℕ) (later : List AsmItem) → Ahead (puts_items W F y c k) later
+    puts_go y (Do o c) (suc k) later = ahead_append (put_items W F y o) (puts_items W F y c k) later (put_go y o _) (puts_go y c k later)
+    puts_go y (Do o c) zero later = tt
+    puts_go y Stop k later = tt
+    puts_go y (Call t g args c) k later = tt
+    puts_go y (Choose p a b c) k later = tt
+    puts_go y (Block b c) k later = tt
+    puts_go y (Loop b c) k later = tt
+    puts_go y (Leave j c) k later = tt
+    puts_go y (Again j c) k later = tt
+    puts_go y (Return p c) k later = tt
+
+    move_go : (b : Bool) (t r : ℕ) (later : List AsmItem) → Ahead (move_item b t r) later
+    move_go true t r later = tt
+    move_go false t r later = (tt, tt)
+
+    moves_go : (y : Copying) (c : NodesT Where) (later : List AsmItem) → Ahead (move_items y c) later
+    moves_go y c later =
+        let a = move_item (is_put y.to false c) 13 y.to in
+        let b = move_item (source_put y.from false c) 12 (source y.from y) in
+        let d = move_item (is_put y.count false c) 11 y.count in
+        ahead_append a (b ++ d) later (move_go (is_put y.to false c) 13 y.to _) (ahead_append b d later (move_go (source_put y.from false c) 12 (source y.from y) _) (move_go (is_put y.count false c) 11 y.count later))
 
     group_ahead : (o : OpT Where) (c : NodesT Where) (later : List AsmItem) → IsOp x m o → Ahead (group_items W F o c) later
-    group_ahead o c later ok = group_is W F (λ xs. Ahead xs later) o c (one_or_more_ahead o c later ok) (λ k e. puts_go (Do o c) k later)
+    group_ahead o c later ok = group_is W F (λ xs. Ahead xs later) o c (one_or_more_ahead o c later ok) (λ k y e. ahead_append (puts_items W F y (Do o c) k) (move_items y (Do o c)) later (puts_go y (Do o c) k _) (moves_go y (Do o c) later))
 
     next_ahead : (o : OpT Where) (c : NodesT Where) (later : List AsmItem) → IsOp x m o → Ahead (next_items W F o c) later
     next_ahead o c later ok =

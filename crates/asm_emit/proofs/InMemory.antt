@@ -209,9 +209,9 @@ module _ (W : Whole) (F : Frame) (out : Option ℕ) where
   plain_are : (o : OpT Where) (last : Behind) (ls : List ℕ) (n : ℕ) (c : NodesT Where) (k : ℕ) → items last ls n (Do o c) k ≡ On last (Do o c) k (op_items W F o) ls n 0 c
   plain_are o last ls n c zero = made_are (made_of W F o c)
     where
-      led_are : (x : Option ℕ) → led_items W F o c x ++ items last ls n c (led_more W F o c x) ≡ led_ahead W F o c x ++ onward (led_behind W F o c x) (op_items W F o) (items last ls n c) (items last ls (n + 0) c 0)
+      led_are : (x : Option (ℕ × Copying)) → led_items W F o c x ++ items last ls n c (led_more W F o c x) ≡ led_ahead W F o c x ++ onward (led_behind W F o c x) (op_items W F o) (items last ls n c) (items last ls (n + 0) c 0)
       led_are None = done_are o (in_one W F o c) last ls n c
-      led_are (Some j) = refl
+      led_are (Some (j, y)) = refl
 
       made_are : (x : Option (ℕ × Made)) → made_or F x (group_items W F o c) ++ items last ls n c (made_more x (group_more W F o c)) ≡ made_or F x (led_ahead W F o c (lead (Do o c))) ++ onward (more_ahead x (led_behind W F o c (lead (Do o c)))) (op_items W F o) (items last ls n c) (items last ls (n + 0) c 0)
       made_are None = led_are (lead (Do o c))
@@ -258,9 +258,9 @@ module _ (W : Whole) (F : Frame) (out : Option ℕ) where
   plain_test : (o : OpT Where) (to : ℕ) (c : NodesT Where) (k : ℕ) → tests to (Do o c) k ≡ Tests (Do o c) k (op_items W F o) to c
   plain_test o to c zero = made_test (made_of W F o c)
     where
-      led_test : (x : Option ℕ) → led_items W F o c x ++ tests to c (led_more W F o c x) ≡ led_ahead W F o c x ++ onward (led_behind W F o c x) (op_items W F o) (tests to c) (tests to c 0)
+      led_test : (x : Option (ℕ × Copying)) → led_items W F o c x ++ tests to c (led_more W F o c x) ≡ led_ahead W F o c x ++ onward (led_behind W F o c x) (op_items W F o) (tests to c) (tests to c 0)
       led_test None = done_test o (in_one W F o c) to c
-      led_test (Some j) = refl
+      led_test (Some (j, y)) = refl
 
       made_test : (x : Option (ℕ × Made)) → made_or F x (group_items W F o c) ++ tests to c (made_more x (group_more W F o c)) ≡ made_or F x (led_ahead W F o c (lead (Do o c))) ++ onward (more_ahead x (led_behind W F o c (lead (Do o c)))) (op_items W F o) (tests to c) (tests to c 0)
       made_test None = led_test (lead (Do o c))

@@ -3,6 +3,7 @@ pub mod Ordered
 pub mod InMemory
 pub mod Joining
 pub mod Fronts
+pub mod LeadsBehind
 pub mod Sparing
 pub mod Coded
 pub mod Forward

@@ -24,14 +24,14 @@ use Rattle.mid_code.specs.declared.placed.Where.TheVariants.{Reg, Slot}
 use Rattle.mid_code.specs.Code.{OpT, ConstO, NullO, MoveO, OneO, TwoO, GlobalO, LocalO, LiteralO, CardO, StepO, ApartO, PtrTestO, LoadO, StoreO, FreshO, EndO, InO, OutO, WaitO, HaltO, NodesT, Stop, Do, Call, Choose, Block, Loop, Leave, Again, Return, FunctionT, CodeT}
 use Rattle.mid_code.specs.Invariants.{AllOf, IsOp, AreNodes}
 use Rattle.asm_laws.specs.Moves.{Move, in_order}
-use Rattle.asm_laws.specs.Operations.{Frame, Whole, keep, fetches, keeps, keeps_some, hand, brings, takes, aim, lays, moves, changes, is_direct, in_place, apart, is_turned, turned_or_apart, computes, slot_arg, slot_args, moved_items, args_items, call_items, op_items, in_one, one_or_more, more_of, giving, start_frame, literal_items, literals_items, word_put, put_item, puts_items, group_items, giving_left, next_items, next_more}
+use Rattle.asm_laws.specs.Operations.{Frame, Whole, keep, fetches, keeps, keeps_some, hand, brings, takes, aim, lays, moves, changes, is_direct, in_place, apart, is_turned, turned_or_apart, computes, slot_arg, slot_args, moved_items, args_items, call_items, op_items, in_one, one_or_more, giving, start_frame, literal_items, literals_items, put_items, puts_items, group_items, giving_left, next_items, next_more}
 use Rattle.asm_laws.specs.Pieces.{register, is_in, turned}
 use Rattle.asm_laws.specs.Framing.{frame_made, frame_gone}
 use Rattle.asm_laws.specs.declared.behind.Behind.{Behind}
 use Rattle.asm_laws.specs.declared.behind.Behind.TheVariants.{Other, End, Turn}
 use Rattle.asm_laws.specs.inner.Emitted.{labels, enclosing, jump, jump_unless, mark, first_part, second_part, choice, alone, left_to, ends, jump_when, is_stop, enclosed, leaving, left_by, items_past, code_items, exit_items, function_items, functions_items, closing_items, start_items, program_items, inside, is_end, is_turn, again, rotated, looped, is_tested, part_items, test_items}
 use Rattle.asm_laws.specs.declared.copying.Copying.{Copying}
-use Rattle.asm_laws.specs.Copies.{copy_at, copy_or, items_from}
+use Rattle.asm_laws.specs.Copies.{goes_to, is_put, source, source_put, move_item, move_items, block_of, back_items, copy_at, copy_or}
 use Rattle.asm_laws.proofs.InOne.{TakesWord, one_or_more_is, group_is, next_is}
 use Rattle.asm_emit.specs.inner.Words.{AreWords, TextsAreWords}
 use Rattle.asm_emit.proofs.ReadableLabels.{jump_named, literal_named, function_named}
@@ -221,25 +221,38 @@ module _ (x : CodeT Where) (W : Whole) (words : list_all is_word W.names ≡ tru
         one_or_more_is W F AllFine (λ v. v < 2 ^ 32) o c (λ t n e. (subst (IsOp x m) e ok, in_words 0 n, λ x y. sum_in_words x y)) (λ t k e. (addresses k, in_words 0 (get_or W.globals k 0), λ x y. sum_in_words x y)) (op_fine o ok) taking_fine
         (λ p r i lt h. (fetch_fine F p r lt, taking_fine i h), λ r q i lr lq h. ((lr, (lq, tt)), taking_fine i h))
 
-    put_fine : (o : OpT Where) → IsOp x m o → AllFine (put_item (word_put W o))
-    put_fine (ConstO (Reg r) n) ok = ((in_registers r, (ok, tt)), tt)
-    put_fine (GlobalO (Reg r) k) ok = ((in_registers r, (addresses k, tt)), tt)
-    put_fine _ ok = tt
+    put_fine : (y : Copying) (o : OpT Where) → IsOp x m o → AllFine (put_items W F y o)
+    put_fine y (ConstO (Reg r) n) ok = ((in_registers (goes_to y r), (ok, tt)), tt)
+    put_fine y (GlobalO (Reg r) k) ok = ((in_registers (goes_to y r), (addresses k, tt)), tt)
+    put_fine y (LocalO (Reg r) k) ok = ((in_registers (goes_to y r), ((omega arith, in_words _ F.size), tt)), tt)
+    put_fine y (MoveO (Reg r) p) ok = moves_fine F (Reg (goes_to y r)) p
+    put_fine y _ ok = tt
 
-    puts_fine : (c : NodesT Where) (k : ℕ) (bs : List Bool) → AreNodes x m bs c → AllFine (puts_items W c k)
-    puts_fine (Do o c) (suc k) bs ok = join (put_item (word_put W o)) (puts_items W c k) (put_fine o ok.0) (puts_fine c k bs ok.1)
-    puts_fine (Do o c) zero bs ok = tt
-    puts_fine Stop k bs ok = tt
-    puts_fine (Call t g args c) k bs ok = tt
-    puts_fine (Choose p a b c) k bs ok = tt
-    puts_fine (Block b c) k bs ok = tt
-    puts_fine (Loop b c) k bs ok = tt
-    puts_fine (Leave j c) k bs ok = tt
-    puts_fine (Again j c) k bs ok = tt
-    puts_fine (Return p c) k bs ok = tt
+    puts_fine : (y : Copying) (c : NodesT Where) (k : ℕ) (bs : List Bool) → AreNodes x m bs c → AllFine (puts_items W F y c k)
+    puts_fine y (Do o c) (suc k) bs ok = join (put_items W F y o) (puts_items W F y c k) (put_fine y o ok.0) (puts_fine y c k bs ok.1)
+    puts_fine y (Do o c) zero bs ok = tt
+    puts_fine y Stop k bs ok = tt
+    puts_fine y (Call t g args c) k bs ok = tt
+    puts_fine y (Choose p a b c) k bs ok = tt
+    puts_fine y (Block b c) k bs ok = tt
+    puts_fine y (Loop b c) k bs ok = tt
+    puts_fine y (Leave j c) k bs ok = tt
+    puts_fine y (Again j c) k bs ok = tt
+    puts_fine y (Return p c) k bs ok = tt
+
+    move_fine : (b : Bool) (t r : ℕ) → t < 16 → AllFine (move_item b t r)
+    move_fine true t r lt = tt
+    move_fine false t r lt = ((lt, (in_registers r, tt)), tt)
+
+    words_fine : (y : Copying) (c : NodesT Where) → AllFine (move_items y c)
+    words_fine y c =
+        let a = move_item (is_put y.to false c) 13 y.to in
+        let b = move_item (source_put y.from false c) 12 (source y.from y) in
+        let d = move_item (is_put y.count false c) 11 y.count in
+        join a (b ++ d) (move_fine (is_put y.to false c) 13 y.to (omega arith)) (join b d (move_fine (source_put y.from false c) 12 (source y.from y) (omega arith)) (move_fine (is_put y.count false c) 11 y.count (omega arith)))
 
     group_fine : (o : OpT Where) (c : NodesT Where) (bs : List Bool) → AreNodes x m bs (Do o c) → AllFine (group_items W F o c)
-    group_fine o c bs ok = group_is W F AllFine o c (one_or_more_fine o c ok.0) (λ k e. puts_fine (Do o c) k bs ok)
+    group_fine o c bs ok = group_is W F AllFine o c (one_or_more_fine o c ok.0) (λ k y e. join (puts_items W F y (Do o c) k) (move_items y (Do o c)) (puts_fine y (Do o c) k bs ok) (words_fine y (Do o c)))
 
     next_fine : (o : OpT Where) (c : NodesT Where) (bs : List Bool) → AreNodes x m bs (Do o c) → AllFine (next_items W F o c)
     next_fine o c bs ok =
@@ -247,22 +260,17 @@ module _ (x : CodeT Where) (W : Whole) (words : list_all is_word W.names ≡ tru
         (λ p r i lt h. (fetch_fine F p r lt, taking_fine i h), λ r q i lr lq h. ((lr, (lq, tt)), taking_fine i h))
         (λ u t a b e. (fetch_fine F a 9 (omega arith), join (brings F b 10) (item.Op (instr.Two u 9 (src.Reg (hand b 10))) ∷ []) (brings_fine F b 10 (omega arith)) ((omega arith, (hand_fine b 10 (omega arith), tt)), tt))) (group_fine o c bs ok)
 
-    copy_fine : (f : Option ℕ) (y : Copying) → AllFine (items_from f y)
+    copy_fine : (f : Option ℕ) (y : Copying) → AllFine (item.Op (instr.Plain (block_of f)) ∷ back_items f y)
     copy_fine None y =
         let to = in_registers y.to in
         let count = in_registers y.count in
-        let cell = in_registers y.cell in (
-          (omega arith, (to, tt)),
-          ((omega arith, (cell, tt)), ((omega arith, (count, tt)), (tt, ((to, ((omega arith, omega arith), tt)), ((count, (omega arith, tt)), tt))))),
-        )
+        (tt, ((to, ((omega arith, omega arith), tt)), ((count, (omega arith, tt)), tt)))
     copy_fine (Some f) y =
         let to = in_registers y.to in
         let from = in_registers f in
         let count = in_registers y.count in
-        let cell = in_registers y.cell in (
-          (omega arith, (to, tt)),
-          ((omega arith, (from, tt)), ((omega arith, (count, tt)), (tt, ((from, ((omega arith, omega arith), tt)), ((to, ((omega arith, omega arith), tt)), ((count, (omega arith, tt)), ((cell, (to, tt)), tt))))))),
-        )
+        let cell = in_registers y.cell in
+        (tt, ((from, ((omega arith, omega arith), tt)), ((to, ((omega arith, omega arith), tt)), ((count, (omega arith, tt)), ((cell, (to, tt)), tt)))))
 
     copied_fine : (y : Option Copying) (xs : List AsmItem) → AllFine xs → AllFine (copy_or y xs)
     copied_fine None xs h = h

@@ -8,12 +8,11 @@ ghost use Rattle.asm_laws.specs.Operations.{with_sum};
 ghost use Rattle.asm_laws.specs.Operations.{taken, brought, either, added, known, addend, using_it, with_known, before_it};
 ghost use Rattle.asm_emit.specs.inner.Listed.{front_put, front_word, front_summed, ahead_items, ahead_more, is_call};
 ghost use Rattle.asm_emit.specs.inner.Listed.{front_items, front_more, labels_due, node_labels};
-ghost use Rattle.asm_laws.specs.Operations.{put_item, puts_items};
-ghost use Rattle.asm_emit.specs.inner.Listed.{put_here, left_behind, list_puts};
 ghost use Rattle.asm_emit.specs.inner.View.{frame, whole};
 
 use crate::copies::lead;
 use crate::hands::{fetch, hand, is_in, op, register};
+use crate::leading::put_group;
 use crate::pieces::{port, turned};
 use crate::results::{made_of, put_giving, put_made};
 use crate::scope::{Around, Scope, at_or};
@@ -434,76 +433,6 @@ fn put_in_one(
     }
 }
 
-/// Adds the word that is put into a register, where there is one.
-fn put_word(out: &mut Vec<AsmItem>, put: Option<(Reg, u32)>) -> Result<(), Memory>
-    ensures { OnOk result (out.new.items ≡ out.old.items ++ put_item put) }
-{
-    match put {
-        None => Ok(()),
-        Some((r, word)) => op(out, Instr::Mov(Mov::RegImm(r, Either::Left(word)))),
-    }
-}
-
-/// The same for an operation, where so many are left; how many are left behind it.
-fn put_here(
-    out: &mut Vec<AsmItem>,
-    w: &Around<'_>,
-    o: &Op<Where>,
-    left: u32,
-) -> Result<Option<u32>, Memory>
-    ensures items { OnOk result (out.new.items ≡ out.old.items ++ put_here (whole w.now) o.now left) }
-    ensures left { IfOk result (λ k. k ≡ left_behind o.now left) }
-{
-    if left == 0 {
-        Ok(None)
-    } else {
-        put_word(out, word_put(w, o))?;
-        Ok(if is_call(o) { None } else { Some(left - 1) })
-    }
-}
-
-/// The same for so many operations that come first.
-fn put_words(
-    out: &mut Vec<AsmItem>,
-    w: &Around<'_>,
-    xs: &[Node<Where>],
-    count: u32,
-) -> Result<(), Memory>
-    ensures { OnOk result (out.new.items ≡ out.old.items ++ list_puts (whole w.now) (listed (map node xs.now)) count) }
-{
-    let mut left = count;
-    for x in xs {
-        match x {
-            Node::Do(o) => match put_here(out, w, o, left)? {
-                Some(n) => left = n,
-                None => return Ok(()),
-            },
-            _ => return Ok(()),
-        }
-    }
-    Ok(())
-}
-
-/// The same for an operation and those behind it.
-#[tactic(auto, using(crate::proofs::Fronts::led_puts))]
-fn put_led(
-    out: &mut Vec<AsmItem>,
-    w: &Around<'_>,
-    o: &Op<Where>,
-    rest: &[Node<Where>],
-    count: u32,
-) -> Result<(), Memory>
-    ensures { OnOk result (out.new.items ≡ out.old.items ++ puts_items (whole w.now) (op_before o.now (nodes rest.now)) count) }
-{
-    match put_here(out, w, o, count)? {
-        Some(n) => {
-            put_words(out, w, rest, n)?;
-            Ok(())
-        }
-        None => Ok(()),
-    }
-}
-
 /// The same where an operation may be done already; none where its own items are due.
 #[tactic(auto, using(crate::proofs::Fronts::items_of_front, crate::proofs::Fronts::more_of_front, crate::proofs::Fronts::none_due))]
 fn put_op_ahead(
@@ -525,8 +454,8 @@ fn put_op_ahead(
                 Ok(Some(more))
             }
             None => match lead(o, rest) {
-                Some(count) => {
-                    put_led(out, w, o, rest, count)?;
+                Some((count, y)) => {
+                    put_group(out, w, s, y, o, rest, count)?;
                     Ok(Some(count))
                 }
                 None => put_in_one(out, w, s, o, rest),

@@ -3,8 +3,10 @@ ghost use Rattle.std.specs.Prelude.{◌≡◌, ◌++◌, ◌∷◌, [], OnOk, co
 ghost use Rattle.mid_code.specs.Functions.{op_before, nodes};
 ghost use Rattle.asm_laws.specs.Copies.{steps_by, ends_here, turns_here, steps_to, steps_both, steps_on, goes_round};
 ghost use Rattle.asm_laws.specs.Copies.{four_differ, other_differs, differ, is_copy};
-ghost use Rattle.asm_laws.specs.Copies.{copy_counted, copy_stored, copy_of, copy_after, puts_ahead, last_put, is_count, is_one, leads, lead};
-ghost use Rattle.asm_laws.specs.Copies.{copy_at, block_items, last_item, move_items, back_items, copy_items};
+ghost use Rattle.asm_laws.specs.Copies.{copy_counted, copy_stored, copy_of, copy_after, is_from, is_moved, reads_moved, puts_ahead};
+ghost use Rattle.asm_laws.specs.Copies.{last_put, is_count, is_one, lead, copy_at};
+ghost use Rattle.asm_laws.specs.Copies.{block_of, last_item, back_items, copy_items};
+ghost use Rattle.asm_emit.specs.inner.Listed.{takes_moved, leads_behind};
 
 use crate::hands::{op, register};
 use crate::nodes::is_none;
@@ -187,6 +189,8 @@ fn copy_after(xs: &[Node<Where>]) -> Option<Copying>
         match x {
             Node::Do(Op::Const(Where::Reg(_), _)) => {}
             Node::Do(Op::Global(Where::Reg(_), _)) => {}
+            Node::Do(Op::Local(Where::Reg(_), _)) => {}
+            Node::Do(Op::Move(Where::Reg(_), _)) => {}
             Node::Loop(b) => return copy_of(b.as_slice()),
             _ => return None,
         }
@@ -194,22 +198,60 @@ fn copy_after(xs: &[Node<Where>]) -> Option<Copying>
     None
 }
 
-/// How many these are, with one before them; at most 4.
+/// Whether a loop reads words from the address in a register.
+pub(crate) fn is_from(from: Option<u32>, r: u32) -> bool
+    ensures { result ≡ is_from from r }
+{
+    match from {
+        None => false,
+        Some(f) => r == f,
+    }
+}
+
+/// Whether the block move takes the word of a register, and leaves another one there.
+fn is_moved(y: Copying, r: u32) -> bool
+    ensures { result ≡ is_moved y r }
+{
+    r == y.to || is_from(y.from, r) || r == y.count
+}
+
+fn reads_moved(y: Copying, p: Where) -> bool
+    ensures { result ≡ reads_moved y p }
+{
+    match p {
+        Where::Reg(r) => is_moved(y, r),
+        Where::Slot(_) => false,
+    }
+}
+
+/// How many these are, with one before them; at most 8, none of which takes its word from such a register.
 #[tactic(auto, unfolding(asm_laws::specs::Copies::puts_ahead))]
-fn puts_ahead(xs: &[Node<Where>]) -> Option<u32>
-    ensures { result ≡ puts_ahead 1 (nodes xs.now) }
+fn puts_ahead(y: Copying, xs: &[Node<Where>]) -> Option<u32>
+    ensures { result ≡ puts_ahead y 1 (nodes xs.now) }
 {
     let mut count: u32 = 1;
     for x in xs {
         match x {
             Node::Do(Op::Const(Where::Reg(_), _)) => {
-                if count == 4 {
+                if count == 8 {
                     return None;
                 }
                 count += 1;
             }
             Node::Do(Op::Global(Where::Reg(_), _)) => {
-                if count == 4 {
+                if count == 8 {
+                    return None;
+                }
+                count += 1;
+            }
+            Node::Do(Op::Local(Where::Reg(_), _)) => {
+                if count == 8 {
+                    return None;
+                }
+                count += 1;
+            }
+            Node::Do(Op::Move(Where::Reg(_), p)) => {
+                if count == 8 || reads_moved(y, *p) {
                     return None;
                 }
                 count += 1;
@@ -238,6 +280,8 @@ fn last_put(r: u32, xs: &[Node<Where>], before: Option<u32>) -> Option<u32>
         match x {
             Node::Do(Op::Const(Where::Reg(q), n)) => known = picked(r == *q, Some(*n), known),
             Node::Do(Op::Global(Where::Reg(q), _)) => known = picked(r == *q, None, known),
+            Node::Do(Op::Local(Where::Reg(q), _)) => known = picked(r == *q, None, known),
+            Node::Do(Op::Move(Where::Reg(q), _)) => known = picked(r == *q, None, known),
             _ => return known,
         }
     }
@@ -262,28 +306,49 @@ fn is_one(n: Option<u32>) -> bool
     }
 }
 
-/// How many operations put words into registers before such a loop whose count and 1 are known by them, where the first one puts a word into register r.
-fn leads(r: u32, word: Option<u32>, rest: &[Node<Where>]) -> Option<u32>
-    ensures { result ≡ leads r word (nodes rest.now) (copy_after (nodes rest.now)) }
+fn takes_moved(y: Copying, p: Option<Where>) -> bool
+    ensures { result ≡ takes_moved y p }
+{
+    match p {
+        None => false,
+        Some(p) => reads_moved(y, p),
+    }
+}
+
+/// How many operations put words into registers before such a loop whose count and 1 are known by them, and its registers, where the first one puts a word
+/// into register r, which is that of the place p where there is one.
+fn leads(
+    r: u32,
+    word: Option<u32>,
+    p: Option<Where>,
+    rest: &[Node<Where>],
+) -> Option<(u32, Copying)>
+    ensures { result ≡ leads_behind r word p (nodes rest.now) (copy_after (nodes rest.now)) }
 {
     let y = copy_after(rest)?;
-    let count = if y.count == r { word } else { None };
+    if takes_moved(y, p) {
+        return None;
+    }
+    let count = puts_ahead(y, rest)?;
+    let words = if y.count == r { word } else { None };
     let one = if y.one == r { word } else { None };
-    if is_count(last_put(y.count, rest, count)) && is_one(last_put(y.one, rest, one)) {
-        puts_ahead(rest)
+    if is_count(last_put(y.count, rest, words)) && is_one(last_put(y.one, rest, one)) {
+        Some((count, y))
     } else {
         None
     }
 }
 
 /// The same of an operation and the nodes behind it.
-#[tactic(auto, unfolding(asm_laws::specs::Copies::lead))]
-pub(crate) fn lead(o: &Op<Where>, rest: &[Node<Where>]) -> Option<u32>
+#[tactic(auto, using(crate::proofs::LeadsBehind::const_leads, crate::proofs::LeadsBehind::global_leads, crate::proofs::LeadsBehind::local_leads, crate::proofs::LeadsBehind::move_leads), unfolding(asm_laws::specs::Copies::lead))]
+pub(crate) fn lead(o: &Op<Where>, rest: &[Node<Where>]) -> Option<(u32, Copying)>
     ensures { result ≡ lead (op_before o.now (nodes rest.now)) }
 {
     match o {
-        Op::Const(Where::Reg(r), n) => leads(*r, Some(*n), rest),
-        Op::Global(Where::Reg(r), _) => leads(*r, None, rest),
+        Op::Const(Where::Reg(r), n) => leads(*r, Some(*n), None, rest),
+        Op::Global(Where::Reg(r), _) => leads(*r, None, None, rest),
+        Op::Local(Where::Reg(r), _) => leads(*r, None, None, rest),
+        Op::Move(Where::Reg(r), p) => leads(*r, None, Some(*p), rest),
         _ => None,
     }
 }
@@ -293,26 +358,6 @@ pub(crate) fn copy_at(done: u32, b: &[Node<Where>]) -> Option<Copying>
     ensures { result ≡ copy_at done (nodes b.now) }
 {
     if done == 0 { None } else { copy_of(b) }
-}
-
-/// Adds the block move or fill, where a register has what goes into SR.
-fn put_block(out: &mut Vec<AsmItem>, y: Copying, source: u32, block: Plain) -> Result<(), Memory>
-    ensures { OnOk result (out.new.items ≡ out.old.items ++ block_items source block y) }
-{
-    op(out, Instr::Mov(Mov::RegReg(Reg::at(13), register(y.to))))?;
-    op(out, Instr::Mov(Mov::RegReg(Reg::at(12), register(source))))?;
-    op(out, Instr::Mov(Mov::RegReg(Reg::at(11), register(y.count))))?;
-    op(out, Instr::Plain(block))
-}
-
-/// Adds the block move, or the block fill where no word is read.
-fn put_move(out: &mut Vec<AsmItem>, y: Copying) -> Result<(), Memory>
-    ensures { OnOk result (out.new.items ≡ out.old.items ++ move_items y.from y) }
-{
-    match y.from {
-        None => put_block(out, y, y.cell, Plain::SETS),
-        Some(from) => put_block(out, y, from, Plain::MOVS),
-    }
 }
 
 /// Adds what puts into a register the address of the last word that was read or written, which one of the emitter's registers has gone past.
@@ -346,12 +391,21 @@ fn put_back(out: &mut Vec<AsmItem>, y: Copying) -> Result<(), Memory>
     }
 }
 
-/// Adds both.
+fn block_of(y: Copying) -> Plain
+    ensures { result ≡ block_of y.from }
+{
+    match y.from {
+        None => Plain::SETS,
+        Some(_) => Plain::MOVS,
+    }
+}
+
+/// Adds the block move or fill, and that.
 #[tactic(auto, using(crate::proofs::Fronts::both_parts))]
 pub(crate) fn put_copy(out: &mut Vec<AsmItem>, y: Copying) -> Result<(), Memory>
     ensures { OnOk result (out.new.items ≡ out.old.items ++ copy_items y) }
 {
-    put_move(out, y)?;
+    op(out, Instr::Plain(block_of(y)))?;
     put_back(out, y)?;
     Ok(())
 }

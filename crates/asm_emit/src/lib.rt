@@ -10,6 +10,7 @@ mod calls;
 mod copies;
 mod framing;
 mod hands;
+mod leading;
 mod moving;
 mod names;
 mod nodes;

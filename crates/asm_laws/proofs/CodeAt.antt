@@ -320,8 +320,8 @@ module _ (S : Setting) (f : ℕ) (out : Option ℕ) (leave : Leaves S f out) whe
     -- a loop that is done by a block move, or in turns
     copied_at : (b : NodesT Where) (xs : List AsmItem) (es : List Bounds) (done pc q : ℕ) (y : Option Copying) → copy_at done b ≡ y → Here pc (copy_or y xs) q →
         (Here pc xs q → (r : ℕ) × (p : ℕ) × Passes S.console.words pc r × CodeAt (record { begins = r; ends = p; owes = true } ∷ es) r b p × (q ≡ p)) →
-        (p : ℕ) × ((items_at S).copy f pc b done p ⊎ ((r : ℕ) × Passes S.console.words pc r × CodeAt (record { begins = r; ends = p; owes = true } ∷ es) r b p)) × (q ≡ p)
-    copied_at b xs es done pc q None e h go = let r = go h in (r.1, inr (r.0, r.2, r.3), r.4)
+        (p : ℕ) × ((items_at S).copy f pc b done p ⊎ ((items_at S).plain b done × (r : ℕ) × Passes S.console.words pc r × CodeAt (record { begins = r; ends = p; owes = true } ∷ es) r b p)) × (q ≡ p)
+    copied_at b xs es done pc q None e h go = let r = go h in (r.1, inr (e, r.0, r.2, r.3), r.4)
     copied_at b xs es done pc q (Some y) e h go = (q, inl (y, e, h), refl)
 
     -- behind an operator's word that is given back

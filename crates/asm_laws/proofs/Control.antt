@@ -10,7 +10,7 @@ use Rattle.mid_code.specs.declared.placed.Where.{Where}
 use Rattle.mid_code.specs.Code.{NodesT, Stop, Do, Call, Choose, Block, Loop, Leave, Again, Return}
 use Rattle.mid_code.specs.Meaning.{Did, On, Ends, Res, Next, Leaves, Repeats, Returns, Over, Lang, node_weight, call_weight, then_next, did, block_done, turn_done, choose, call_done, called, does, below, runs}
 use Rattle.asm_laws.specs.Placing.{Shapes, Bounds, end_of, begin_of, owed, due, paid, Jumps, Passes, Begins, Past, At}
-use Rattle.asm_laws.specs.inner.Following.{Holder, Begin, begin, spare, CameBy, Came, Stopped, Going, Final, Sim, DidSim, Enters, CallSim, TestSim, did_then, front_acts, knows, Parts}
+use Rattle.asm_laws.specs.inner.Following.{Holder, Begin, begin, spare, CameBy, Came, Stopped, Going, Final, Sim, DidBy, Enters, CallSim, TestSim, did_then, front_acts, at_front, Parts}
 
 pub end_paid : (ls : List Bounds) (k : ℕ) → end_of (paid ls) k ≡ end_of ls k
 end_paid [] k = refl
@@ -44,7 +44,7 @@ module _ (L : Lang Where) (X : Holder L) where
     many = omega (arith, f.many, g.many, le);
   }
 
-  came_came : (m : State) (b : Begin) (t u : L.S) (pc q i j k x : ℕ) (R Q : State → Type 0) → (f : Came X m b t pc i 0 R) → (g : Came X f.to (begin X t) u q j x Q) → k ≤ i + j → Came X m b u q k x Q
+  pub came_came : (m : State) (b : Begin) (t u : L.S) (pc q i j k x : ℕ) (R Q : State → Type 0) → (f : Came X m b t pc i 0 R) → (g : Came X f.to (begin X t) u q j x Q) → k ≤ i + j → Came X m b u q k x Q
   came_came m b t u pc q i j k x R Q f g le = came_by [] [] [] m b t u pc q i j k x R Q f g le
 
   -- what is done inside a call
@@ -76,7 +76,7 @@ module _ (L : Lang Where) (X : Holder L) where
     many = omega (arith, f.many, g.many, le);
   }
 
-  came_final : (js : List Link) (m : State) (b : Begin) (t u : L.S) (pc i n k : ℕ) (R : State → Type 0) (g : Ending) → n ≤ i + k → (f : CameBy [] js X m b t pc i 0 R) → Final X k f.to (begin X t) g u → Final X n m b g u
+  pub came_final : (js : List Link) (m : State) (b : Begin) (t u : L.S) (pc i n k : ℕ) (R : State → Type 0) (g : Ending) → n ≤ i + k → (f : CameBy [] js X m b t pc i 0 R) → Final X k f.to (begin X t) g u → Final X n m b g u
   came_final js m b t u pc i n k R Halted le f a = came_stopped js m b t u pc i R machine.Halted f a
   came_final js m b t u pc i n k R (Fault x) le f a = came_stopped js m b t u pc i R (machine.Fault x) f a
   came_final js m b t u pc i n k R Starved le f a = came_stopped js m b t u pc i R machine.Starved f a
@@ -123,9 +123,9 @@ module _ (L : Lang Where) (X : Holder L) where
   earlier_final m b d t n Deep ea ee le f = earlier_going m b d t 0 ea ee le f
   earlier_final m b d t n OutOfBound ea ee le f = earlier_going m b d t n ea ee le f
 
-  pub earlier_did : (κ : X.K) (m : State) (b d : Begin) (p : ℕ) (r : Did L.S) → d.answers ≡ b.answers → d.events ≡ b.events → b.work ≤ d.work → DidSim X κ m d p r → DidSim X κ m b p r
-  earlier_did κ m b d p (On t) ea ee le f = earlier_came m b d t p 0 0 (X.M κ t) ea ee le f
-  earlier_did κ m b d p (Ends g t) ea ee le f = λ n. earlier_final m b d t n g ea ee le (f n)
+  pub earlier_did : (m : State) (b d : Begin) (p : ℕ) (R : L.S → State → Type 0) (r : Did L.S) → d.answers ≡ b.answers → d.events ≡ b.events → b.work ≤ d.work → DidBy X m d p R r → DidBy X m b p R r
+  earlier_did m b d p R (On t) ea ee le f = earlier_came m b d t p 0 0 (R t) ea ee le f
+  earlier_did m b d p R (Ends g t) ea ee le f = λ n. earlier_final m b d t n g ea ee le (f n)
 
   pub earlier : (κ : X.K) (m : State) (b d : Begin) (e n : ℕ) (ls : List Bounds) (r : Res L.S) → d.answers ≡ b.answers → d.events ≡ b.events → b.work ≤ d.work → Sim X κ m d e n ls r → Sim X κ m b e n ls r
   earlier κ m b d e n ls (Next t) ea ee le f = earlier_came m b d t e 0 0 (X.M κ t) ea ee le f
@@ -154,18 +154,23 @@ module _ (L : Lang Where) (X : Holder L) where
   then_sim κ m b p e n ls (Over g t) go a f = a
 
   -- the rest of what is done already, and what comes behind it
-  done_sim : (κ : X.K) (m : State) (b : Begin) (p e n : ℕ) (ls : List Bounds) (d : Did L.S) (more : L.S → Did L.S) (go : L.S → Res L.S) → DidSim X κ m b p (did_then d more) → ((t : L.S) → d ≡ On t → DidSim X κ m b p (more t) → Sim X κ m b e n ls (go t)) → Sim X κ m b e n ls (did d go)
-  done_sim κ m b p e n ls (On t) more go a f = f t refl a
-  done_sim κ m b p e n ls (Ends g t) more go a f = a n
+  done_sim : (κ : X.K) (m : State) (b : Begin) (p e n : ℕ) (ls : List Bounds) (R : L.S → State → Type 0) (d : Did L.S) (more : L.S → Did L.S) (go : L.S → Res L.S) → DidBy X m b p R (did_then d more) → ((t : L.S) → DidBy X m b p R (more t) → Sim X κ m b e n ls (go t)) → Sim X κ m b e n ls (did d go)
+  done_sim κ m b p e n ls R (On t) more go a f = f t a
+  done_sim κ m b p e n ls R (Ends g t) more go a f = a n
 
   -- what is done, and then more
-  pub did_on : (κ : X.K) (m : State) (b : Begin) (p q : ℕ) (d : Did L.S) (go : L.S → Did L.S) → DidSim X κ m b p d → ((t : L.S) (m1 : State) → d ≡ On t → m1.counter ≡ p → X.M κ t m1 → DidSim X κ m1 (begin X t) q (go t)) → DidSim X κ m b q (did_then d go)
-  did_on κ m b p q (On t) go a f = more (go t) (f t a.to refl a.at a.held)
+  pub did_on : (m : State) (b : Begin) (p q : ℕ) (P R : L.S → State → Type 0) (d : Did L.S) (go : L.S → Did L.S) → DidBy X m b p P d → ((t : L.S) (m1 : State) → m1.counter ≡ p → P t m1 → DidBy X m1 (begin X t) q R (go t)) → DidBy X m b q R (did_then d go)
+  did_on m b p q P R (On t) go a f = more (go t) (f t a.to a.at a.held)
     where
-      more : (r : Did L.S) → DidSim X κ a.to (begin X t) q r → DidSim X κ m b q r
-      more (On u) g = came_came m b t u p q 0 0 0 0 (X.M κ t) (X.M κ u) a g (omega arith)
-      more (Ends h u) g = λ n. came_final [] m b t u p 0 n n (X.M κ t) h (omega arith) a (g n)
-  did_on κ m b p q (Ends h t) go a f = a
+      more : (r : Did L.S) → DidBy X a.to (begin X t) q R r → DidBy X m b q R r
+      more (On u) g = came_came m b t u p q 0 0 0 0 (P t) (R u) a g (omega arith)
+      more (Ends h u) g = λ n. came_final [] m b t u p 0 n n (P t) h (omega arith) a (g n)
+  did_on m b p q P R (Ends h t) go a f = a
+
+  -- the machine holds more of the same states
+  pub did_more : (m : State) (b : Begin) (p : ℕ) (P R : L.S → State → Type 0) (d : Did L.S) → ((t : L.S) (m1 : State) → P t m1 → R t m1) → DidBy X m b p P d → DidBy X m b p R d
+  did_more m b p P R (On t) f a = record { steps = a.steps; made = a.made; to = a.to; by = a.by; at = a.at; held = f t a.to a.held; events = a.events; cost = a.cost; many = a.many }
+  did_more m b p P R (Ends h t) f a = a
 
   block_sim : (κ : X.K) (m : State) (b : Begin) (e n pc : ℕ) (ls : List Bounds) (r : Res L.S) → Sim X κ m b e n (record { begins = pc; ends = e; owes = true } ∷ ls) r → Sim X κ m b e n ls (block_done r)
   block_sim κ m b e n pc ls (Next t) a = a
@@ -307,88 +312,77 @@ module _ (L : Lang Where) (X : Holder L) where
     ticked κ w s m e n ls r a = earlier κ m (begin X s) (begin X (L.tick w s)) e n ls r (parts.tick_answers w s) (parts.tick_events w s) (omega (arith, parts.tick_work w s)) a
 
     -- nodes of which nothing has been done
-    fresh : (κ : X.K) (c : NodesT Where) (s : L.S) (m : State) (pc : ℕ) → m.counter ≡ pc → X.M κ s m → DidSim X κ m (begin X s) pc (front_acts L c zero s)
+    fresh : (κ : X.K) (c : NodesT Where) (s : L.S) (m : State) (pc : ℕ) → m.counter ≡ pc → X.M κ s m → DidBy X m (begin X s) pc (at_front X κ c zero) (front_acts L c zero s)
+    unfolding here
     fresh κ Stop s m pc eq h = here κ m s pc eq h
     fresh κ (Do o c) s m pc eq h = here κ m s pc eq h
     fresh κ (Call t f args c) s m pc eq h = here κ m s pc eq h
     fresh κ (Choose p x y c) s m pc eq h = here κ m s pc eq h
     fresh κ (Block b c) s m pc eq h = here κ m s pc eq h
-    fresh κ (Loop b c) s m pc eq h = here κ m s pc eq h
+    fresh κ (Loop b c) s m pc eq h = let f = here κ m s pc eq h in record { steps = f.steps; made = f.made; to = f.to; by = f.by; at = f.at; held = parts.ready_first κ b s m h; events = f.events; cost = f.cost; many = f.many }
     fresh κ (Leave j c) s m pc eq h = here κ m s pc eq h
     fresh κ (Again j c) s m pc eq h = here κ m s pc eq h
     fresh κ (Return w c) s m pc eq h = here κ m s pc eq h
 
-    -- and nothing is known
-    unknown : (c : NodesT Where) (s : L.S) → knows X c zero s
-    unknown Stop s = tt
-    unknown (Do o c) s = tt
-    unknown (Call t f args c) s = tt
-    unknown (Choose p x y c) s = tt
-    unknown (Block b c) s = tt
-    unknown (Loop b c) s = tt
-    unknown (Leave j c) s = tt
-    unknown (Again j c) s = tt
-    unknown (Return w c) s = tt
-
     -- The first operations of nodes are done, as many as are counted, and the machine stands behind them.
-    nodes : (n k : ℕ) → n ≤ suc k → Before k (below L n) → (κ : X.K) (pc e : ℕ) (ls : List Bounds) (c : NodesT Where) (done : ℕ) (b : Begin) (s : L.S) (m : State) → Past H (X.fn κ) ls pc c done e → knows X c done s → DidSim X κ m b pc (front_acts L c done s) → Sim X κ m b e n ls (does L n (below L n) c s)
-    nodes n k le bef κ pc e ls Stop j b s m at kn d = subst (λ q. Came X m b s q 0 0 (X.M κ s)) at d
-    nodes n k le bef κ pc e ls (Do o c) zero b s m (inl h) kn d =
+    nodes : (n k : ℕ) → n ≤ suc k → Before k (below L n) → (κ : X.K) (pc e : ℕ) (ls : List Bounds) (c : NodesT Where) (done : ℕ) (b : Begin) (s : L.S) (m : State) → Past H (X.fn κ) ls pc c done e → DidBy X m b pc (at_front X κ c done) (front_acts L c done s) → Sim X κ m b e n ls (does L n (below L n) c s)
+    nodes n k le bef κ pc e ls Stop j b s m at d = subst (λ q. Came X m b s q 0 0 (X.M κ s)) at d
+    nodes n k le bef κ pc e ls (Do o c) zero b s m (inl h) d =
         after κ m b s pc 0 n n e ls (X.M κ s) (did (L.act o s) (does L n (below L n) c)) (omega arith) d (parts.made κ pc o c s d.to h d.at d.held e n ls)
-    nodes n k le bef κ pc e ls (Do o c) zero b s m (inr at) kn d =
+    nodes n k le bef κ pc e ls (Do o c) zero b s m (inr at) d =
         after κ m b s pc 0 n n e ls (X.M κ s) (did (L.act o s) (does L n (below L n) c)) (omega arith) d
-        (done_sim κ d.to (begin X s) at.1 e n ls (L.act o s) (front_acts L c at.0) (does L n (below L n) c) (parts.op κ pc at.1 at.0 o c s d.to at.2 d.at d.held) (λ t q a. nodes n k le bef κ at.1 e ls c at.0 (begin X s) t d.to at.3 (parts.knows κ pc at.1 at.0 o c s t at.2 q) a))
-    nodes n k le bef κ pc e ls (Do o c) (suc j) b s m at kn d =
-        done_sim κ m b pc e n ls (L.act o s) (front_acts L c j) (does L n (below L n) c) d (λ t q a. nodes n k le bef κ pc e ls c j b t m at (kn t q) a)
-    nodes n k le bef κ pc e ls (Call t f args c) j b0 s m0 at kn d =
+        (done_sim κ d.to (begin X s) at.1 e n ls (at_front X κ c at.0) (L.act o s) (front_acts L c at.0) (does L n (below L n) c) (parts.op κ pc at.1 at.0 o c s d.to at.2 d.at d.held) (λ t a. nodes n k le bef κ at.1 e ls c at.0 (begin X s) t d.to at.3 a))
+    nodes n k le bef κ pc e ls (Do o c) (suc j) b s m at d =
+        done_sim κ m b pc e n ls (at_front X κ c j) (L.act o s) (front_acts L c j) (does L n (below L n) c) d (λ t a. nodes n k le bef κ pc e ls c j b t m at a)
+    nodes n k le bef κ pc e ls (Call t f args c) j b0 s m0 at d =
         let m = d.to in
         after κ m0 b0 s pc 0 n n e ls (X.M κ s) (does L n (below L n) (Call t f args c) s) (omega arith) d
         (then_sim κ m (begin X s) at.0 e n ls (called L n (below L n) t f args (L.tick (call_weight args) s)) (does L n (below L n) c)
-        (called_sim κ at.0 n k (call_weight args) ls t f args s m (below L n) le bef d.held (parts.call κ pc at.0 t f args s m at.1 d.at d.held)) (λ t1 m1 e1 h1. nodes n k le bef κ at.0 e ls c zero (begin X t1) t1 m1 at.2 (unknown c t1) (fresh κ c t1 m1 at.0 e1 h1)))
-    nodes n k le bef κ pc e ls (Choose p x y c) j b0 s m0 at kn d =
+        (called_sim κ at.0 n k (call_weight args) ls t f args s m (below L n) le bef d.held (parts.call κ pc at.0 t f args s m at.1 d.at d.held)) (λ t1 m1 e1 h1. nodes n k le bef κ at.0 e ls c zero (begin X t1) t1 m1 at.2 (fresh κ c t1 m1 at.0 e1 h1)))
+    nodes n k le bef κ pc e ls (Choose p x y c) j b0 s m0 at d =
         let m = d.to in
         after κ m0 b0 s pc 0 n n e ls (X.M κ s) (does L n (below L n) (Choose p x y c) s) (omega arith) d
         (then_sim κ m (begin X s) at.3 e n ls (choose (L.test p s) (L.tick node_weight s) (does L n (below L n) x) (does L n (below L n) y)) (does L n (below L n) c)
         (choose_sim κ m (begin X s) at.0 at.2 at.1 at.3 n ls (L.tick node_weight s) (L.test p s) (does L n (below L n) x) (does L n (below L n) y) (going_here κ m s node_weight) at.6 (parts.test κ pc at.2 at.0 p s m at.4 d.at d.held)
-        (λ m1 e1 h1. nodes n k le bef κ at.0 at.1 (paid ls) x zero (begin X (L.tick node_weight s)) (L.tick node_weight s) m1 at.5 (unknown x (L.tick node_weight s)) (fresh κ x (L.tick node_weight s) m1 at.0 e1 h1))
-        (λ m1 e1 h1. nodes n k le bef κ at.2 at.3 (paid ls) y zero (begin X (L.tick node_weight s)) (L.tick node_weight s) m1 at.7 (unknown y (L.tick node_weight s)) (fresh κ y (L.tick node_weight s) m1 at.2 e1 h1)))
-        (λ t m1 e1 h1. nodes n k le bef κ at.3 e ls c zero (begin X t) t m1 at.8 (unknown c t) (fresh κ c t m1 at.3 e1 h1)))
-    nodes n k le bef κ pc e ls (Block b c) j b0 s m0 at kn d =
+        (λ m1 e1 h1. nodes n k le bef κ at.0 at.1 (paid ls) x zero (begin X (L.tick node_weight s)) (L.tick node_weight s) m1 at.5 (fresh κ x (L.tick node_weight s) m1 at.0 e1 h1))
+        (λ m1 e1 h1. nodes n k le bef κ at.2 at.3 (paid ls) y zero (begin X (L.tick node_weight s)) (L.tick node_weight s) m1 at.7 (fresh κ y (L.tick node_weight s) m1 at.2 e1 h1)))
+        (λ t m1 e1 h1. nodes n k le bef κ at.3 e ls c zero (begin X t) t m1 at.8 (fresh κ c t m1 at.3 e1 h1)))
+    nodes n k le bef κ pc e ls (Block b c) j b0 s m0 at d =
         let m = d.to in
         let u = L.tick node_weight s in
         let around = record { begins = pc; ends = at.0; owes = true } ∷ ls in
         after κ m0 b0 s pc 0 n n e ls (X.M κ s) (does L n (below L n) (Block b c) s) (omega arith) d
         (then_sim κ m (begin X s) at.0 e n ls (block_done (does L n (below L n) b u)) (does L n (below L n) c)
         (block_sim κ m (begin X s) at.0 n pc ls (does L n (below L n) b u) (ticked κ node_weight s m at.0 n around (does L n (below L n) b u)
-        (nodes n k le bef κ pc at.0 around b zero (begin X u) u m at.1 (unknown b u) (fresh κ b u m pc d.at (parts.ticks κ node_weight s m d.held)))))
-        (λ t m1 e1 h1. nodes n k le bef κ at.0 e ls c zero (begin X t) t m1 at.2 (unknown c t) (fresh κ c t m1 at.0 e1 h1)))
-    nodes n k le bef κ pc e ls (Loop b c) j b0 s m0 (p, inl h, rest) kn d =
-        after κ m0 b0 s pc 0 n n e ls (X.M κ s) (does L n (below L n) (Loop b c) s) (omega arith) d
-        (then_sim κ d.to (begin X s) p e n ls (turn_done (does L n (below L n) b (L.tick node_weight s)) (below L n (Loop b Stop))) (does L n (below L n) c) (parts.copy κ pc p j b s d.to h kn d.at d.held n ls)
-        (λ t m1 e1 h1. nodes n k le bef κ p e ls c zero (begin X t) t m1 rest (unknown c t) (fresh κ c t m1 p e1 h1)))
-    nodes n k le bef κ pc e ls (Loop b c) j b0 s m0 (p, inr (q, passes, body), rest) kn d =
+        (nodes n k le bef κ pc at.0 around b zero (begin X u) u m at.1 (fresh κ b u m pc d.at (parts.ticks κ node_weight s m d.held)))))
+        (λ t m1 e1 h1. nodes n k le bef κ at.0 e ls c zero (begin X t) t m1 at.2 (fresh κ c t m1 at.0 e1 h1)))
+    nodes n k le bef κ pc e ls (Loop b c) j b0 s m0 (p, inl h, rest) d =
+        after κ m0 b0 s pc 0 n n e ls (X.ready κ b j s) (does L n (below L n) (Loop b c) s) (omega arith) d
+        (then_sim κ d.to (begin X s) p e n ls (turn_done (does L n (below L n) b (L.tick node_weight s)) (below L n (Loop b Stop))) (does L n (below L n) c) (parts.copy κ pc p j b s d.to h d.at d.held n ls)
+        (λ t m1 e1 h1. nodes n k le bef κ p e ls c zero (begin X t) t m1 rest (fresh κ c t m1 p e1 h1)))
+    nodes n k le bef κ pc e ls (Loop b c) j b0 s m0 (p, inr (plain, q, passes, body), rest) d =
         let m = d.to in
         let u = L.tick node_weight s in
         let around = record { begins = q; ends = p; owes = true } ∷ ls in
-        let g = pass_node κ pc q s m passes d.at d.held in
-        after κ m0 b0 s pc 0 n n e ls (X.M κ s) (does L n (below L n) (Loop b c) s) (omega arith) d
+        let g = pass_node κ pc q s m passes d.at (parts.ready_plain κ b j s m plain d.held) in
+        after κ m0 b0 s pc 0 n n e ls (X.ready κ b j s) (does L n (below L n) (Loop b c) s) (omega arith) d
         (then_sim κ m (begin X s) p e n ls (turn_done (does L n (below L n) b u) (below L n (Loop b Stop))) (does L n (below L n) c)
         (turn_sim κ m (begin X s) p n k q ls (does L n (below L n) b u) (below L n (Loop b Stop)) le
-        (after κ m (begin X s) u q 0 n n p around (X.M κ u) (does L n (below L n) b u) (omega arith) g (nodes n k le bef κ q p around b zero (begin X u) u g.to body (unknown b u) (fresh κ b u g.to q g.at g.held)))
-        (λ t m1 e1 h1. bef κ q p ls (Loop b Stop) t m1 (p, inr (q, inr refl, body), refl) e1 h1))
-        (λ t m1 e1 h1. nodes n k le bef κ p e ls c zero (begin X t) t m1 rest (unknown c t) (fresh κ c t m1 p e1 h1)))
-    nodes n k le bef κ pc e ls (Leave i c) j b s m at kn d =
+        (after κ m (begin X s) u q 0 n n p around (X.M κ u) (does L n (below L n) b u) (omega arith) g (nodes n k le bef κ q p around b zero (begin X u) u g.to body (fresh κ b u g.to q g.at g.held)))
+        (λ t m1 e1 h1. bef κ q p ls (Loop b Stop) t m1 (p, inr (parts.plain_first b, q, inr refl, body), refl) e1 h1))
+        (λ t m1 e1 h1. nodes n k le bef κ p e ls c zero (begin X t) t m1 rest (fresh κ c t m1 p e1 h1)))
+    nodes n k le bef κ pc e ls (Leave i c) j b s m at d =
         let f = pass_node κ pc (end_of ls i) s d.to at.0 d.at d.held in
         came_came m b s (L.tick node_weight s) pc (end_of ls i) 0 0 0 0 (X.M κ s) (X.M κ (L.tick node_weight s)) d f (omega arith)
-    nodes n k le bef κ pc e ls (Again i c) j b s m at kn d =
+    nodes n k le bef κ pc e ls (Again i c) j b s m at d =
         let f = begin_node κ pc (begin_of ls i) (owed ls i) s d.to at.0 d.at d.held in
         came_came m b s (L.tick node_weight s) pc (begin_of ls i) 0 (due (owed ls i)) (due (owed ls i)) 0 (X.M κ s) (X.M κ (L.tick node_weight s)) d f (omega arith)
-    nodes n k le bef κ pc e ls (Return w c) j b s m at kn d =
+    nodes n k le bef κ pc e ls (Return w c) j b s m at d =
         after κ m b s pc 0 n n e ls (X.M κ s) (does L n (below L n) (Return w c) s) (omega arith) d (parts.give κ pc w s d.to at.0 d.at d.held)
 
     -- for every bound the machine follows the code
     pub follows : (n : ℕ) (κ : X.K) (pc e : ℕ) (ls : List Bounds) (c : NodesT Where) (s : L.S) (m : State) → At H (X.fn κ) ls pc c e → m.counter ≡ pc → X.M κ s m → Sim X κ m (begin X s) e n ls (runs L n c s)
     follows zero κ pc e ls c s m at eq h =
-        nodes zero 0 (omega arith) (λ κ1 pc1 e1 ls1 d t m1 a1 q1 h1. record { steps = 0; made = []; to = m1; left = X.answers t; by = (reaches_here m1 (X.answers t)).runs; nested = λ ns. nested_none ns m1 (X.answers t); events = sym (append-nil (X.events t)); cost = omega arith; many = omega arith }) κ pc e ls c zero (begin X s) s m at (unknown c s) (fresh κ c s m pc eq h)
+        nodes zero 0 (omega arith) (λ κ1 pc1 e1 ls1 d t m1 a1 q1 h1. record { steps = 0; made = []; to = m1; left = X.answers t; by = (reaches_here m1 (X.answers t)).runs; nested = λ ns. nested_none ns m1 (X.answers t); events = sym (append-nil (X.events t)); cost = omega arith; many = omega arith }) κ pc e ls c zero (begin X s) s m at (fresh κ c s m pc eq h)
     follows (suc n) κ pc e ls c s m at eq h =
-        nodes (suc n) n (omega arith) (λ κ1 pc1 e1 ls1 d t m1 a1 q1 h1. follows n κ1 pc1 e1 ls1 d t m1 a1 q1 h1) κ pc e ls c zero (begin X s) s m at (unknown c s) (fresh κ c s m pc eq h)
+        nodes (suc n) n (omega arith) (λ κ1 pc1 e1 ls1 d t m1 a1 q1 h1. follows n κ1 pc1 e1 ls1 d t m1 a1 q1 h1) κ pc e ls c zero (begin X s) s m at (fresh κ c s m pc eq h)

@@ -1,6 +1,6 @@
 -- The instructions of a loop that copies words do what the loop does.
-use Rattle.std.proofs.Common.{◌≡◌, ◌≢◌, ℕ, ◌<◌, inl, inr, Bool, true, false, List, [], ◌∷◌, length, Some, refl, sym, ap, ◌∙◌, subst, arith, append-nil}
-use Rattle.std.specs.Prelude.{◌&&◌, nat_lt}
+use Rattle.std.proofs.Common.{◌≡◌, ◌≢◌, ℕ, ◌<◌, inl, inr, Bool, true, false, List, [], ◌∷◌, length, Some, refl, ap, ◌∙◌, subst, arith}
+use Rattle.std.specs.Prelude.{◌==◌, ◌&&◌, ◌||◌, nat_lt}
 use Rattle.std.proofs.lemmas.Bool.Decides.{nat_tests}
 use Rattle.either.specs.declared.Either.TheVariants.{Left}
 use Rattle.kit_base.specs.Word.{add}
@@ -18,28 +18,23 @@ use Rattle.v32_isa.specs.Calls.Turn.{Other}
 use Rattle.v32_isa.proofs.Steps.{Reaches, reaches_on, reaches_went}
 use Rattle.asm_items.specs.declared.item.AsmItem.{AsmItem}
 use Rattle.asm_items.specs.declared.item.AsmItem.TheVariants as item
-use Rattle.obj_mem.specs.declared.cell.Cell.TheVariants.{Num}
 use Rattle.mid_code.specs.declared.placed.Where.{Where}
-use Rattle.mid_code.specs.declared.placed.Where.TheVariants.{Reg}
-use Rattle.mid_code.specs.Code.{NodesT, Stop, Loop}
+use Rattle.mid_code.specs.Code.{Stop, Loop}
 use Rattle.mid_code.specs.Meaning.{turn_done, node_weight}
 use Rattle.mid_code.specs.Meaning as meaning
 use Rattle.mid_code.specs.States.{State, spent}
-use Rattle.asm_laws.specs.Copies.{copy_items, is_count}
+use Rattle.asm_laws.specs.Copies.{is_moved, copy_items, is_count}
 use Rattle.asm_laws.specs.Pieces.{register}
 use Rattle.asm_laws.specs.Operations.{Frame}
 use Rattle.asm_laws.specs.Placing.{Line, Bounds}
 use Rattle.asm_laws.specs.Standing.{Stand}
-use Rattle.asm_laws.specs.Spare.{Sparing}
 use Rattle.asm_laws.specs.inner.Following.{begin, Sim}
-use Rattle.asm_laws.specs.Addresses.{Addr, Console, readable, writable, having, Room, Held}
+use Rattle.asm_laws.specs.Addresses.{Addr, Console, readable, writable, having, Held}
 use Rattle.asm_laws.specs.Holds.{Setting, Fits, Ctx, Stands}
-use Rattle.asm_laws.specs.Calling.{Mach, lang, holder}
-use Rattle.asm_laws.proofs.Stepping.{written_same, written_other, readable_word, line_effect, line_turn, took, kept, reg_same, reg_other, moved, fetches_so}
-use Rattle.asm_laws.proofs.Control.{after}
-use Rattle.asm_laws.proofs.First.{room}
+use Rattle.asm_laws.specs.Calling.{ReadyFor, lang, holder}
+use Rattle.asm_laws.proofs.Stepping.{same_or_not, written_same, written_other, readable_word, line_effect, line_turn, kept, reg_other}
+use Rattle.asm_laws.proofs.Control.{earlier}
 use Rattle.asm_laws.proofs.Leads.{Copier, Apart, copying, copy_turn}
-use Rattle.asm_laws.proofs.BlockMove.{aside}
 use Rattle.asm_laws.proofs.Copied.{put4, four_like, Low, Inside, Behind, Put, turns}
 
 both : (p q : Bool) → p && q ≡ true → (p ≡ true) × (q ≡ true)
@@ -88,10 +83,6 @@ module _ (S : Setting) (fits : Fits S) (κ : Ctx) where
   abbrev F : Frame
   F = S.whole.frames κ.fn
 
-  -- a register of places other than register 8
-  pub stays : (c : NodesT Where) → Sparing (S.whole.frames κ.fn).registers c 0 → (r : ℕ) → r < 9 → r ≢ 8 → r < (S.whole.frames κ.fn).registers
-  stays c sparing r lt ne = elim sparing [ inl z ↦ omega (arith, z, lt) | inr z ↦ let q = z.0 in omega (arith, q, lt, ne) ]
-
   pub same_register : (r : ℕ) → r < 9 → register r ≡ r
   same_register r lt = omega arith
 
@@ -104,43 +95,6 @@ module _ (S : Setting) (fits : Fits S) (κ : Ctx) where
   put_at b s xs pc next r v i lt h e l fit other is =
       let eff = line_effect S.console b s pc i next h e l fit ∙ is ∙ ap (λ q. EndsIn stepped.Went (going_to next (with_register q v s))) (same_register r lt) in
       record { by = reaches_went s (going_to next (with_register r v s)) xs eff (line_turn S.console b s pc i next h e l fit ∙ other); held = kept S.console b s next r v (omega (arith, lt)) h }
-
-  -- behind three instructions the registers of the block move have the words of three places
-  pub record Moved (s : State Where) (m : machine.State) (h : Mach S κ s m) (next w v n : ℕ) : Type 0 where
-    pub to : machine.State
-    pub by : Reaches 3 m s.world.store.answers [] to s.world.store.answers
-    pub at : to.counter ≡ next
-    pub held : Held C (having h.registers h.words) to
-    pub count : register_of to 11 ≡ h.registers n
-    pub source : register_of to 12 ≡ h.registers v
-    pub target : register_of to 13 ≡ h.registers w
-
-  pub moves_in : (s : State Where) (m : machine.State) (h : Mach S κ s m) (pc n1 n2 n3 target source count : ℕ) → target < 9 → source < 9 → count < 9 → m.counter ≡ pc → Line S.console.words pc (instr.Mov (RegReg 13 (register target))) n1 →
-      Line S.console.words n1 (instr.Mov (RegReg 12 (register source))) n2 → Line S.console.words n2 (instr.Mov (RegReg 11 (register count))) n3 → Moved s m h n3 target source count
-  moves_in s m h pc n1 n2 n3 target source count lt ls ln e l1 l2 l3 =
-      let xs = s.world.store.answers in
-      let b = having h.registers h.words in
-      let rm : Room (S.whole.frames κ.fn) b = let r = room S fits κ s.world.store s.cells h.place h.words h.at in record { top = r.top; low = r.low; high = r.high } in
-      let m1 = took S.console n1 13 (h.registers target) m in
-      let b1 = fetches_so S.console F S.address b m xs pc (Reg target) 13 n1 rm lt (omega arith) h.held e l1 in
-      let h1 = moved S.console b (with_register 13 (h.registers target) m) n1 (aside S.console b m 13 (h.registers target) (omega arith) (omega arith) h.held) in
-      let m2 = took S.console n2 12 (h.registers source) m1 in
-      let b2 = fetches_so S.console F S.address b m1 xs n1 (Reg source) 12 n2 rm ls (omega arith) h1 refl l2 in
-      let h2 = moved S.console b (with_register 12 (h.registers source) m1) n2 (aside S.console b m1 12 (h.registers source) (omega arith) (omega arith) h1) in
-      let m3 = took S.console n3 11 (h.registers count) m2 in
-      let b3 = fetches_so S.console F S.address b m2 xs n2 (Reg count) 11 n3 rm ln (omega arith) h2 refl l3 in
-      let k0 = h.held.sixteen in
-      let k1 = h1.sixteen in
-      let k2 = h2.sixteen in
-      record {
-        to = m3;
-        by = reaches_on 1 2 m m1 m3 xs xs xs [] [] b1 (reaches_on 1 1 m1 m2 m3 xs xs xs [] [] b2 b3);
-        at = refl;
-        held = moved S.console b (with_register 11 (h.registers count) m2) n3 (aside S.console b m2 11 (h.registers count) (omega arith) (omega arith) h2);
-        count = reg_same S.console m2 11 (h.registers count) (omega (arith, k2));
-        source = reg_other S.console m2 11 (h.registers count) 12 (omega arith) ∙ reg_same S.console m1 12 (h.registers source) (omega (arith, k1));
-        target = reg_other S.console m2 11 (h.registers count) 13 (omega arith) ∙ reg_other S.console m1 12 (h.registers source) 13 (omega arith) ∙ reg_same S.console m 13 (h.registers target) (omega (arith, k0));
-      }
 
   module _ (y : Copier) (apart : Apart y) (lo : Low S fits κ y apart) where
     abbrev last_items : List AsmItem
@@ -186,46 +140,39 @@ module _ (S : Setting) (fits : Fits S) (κ : Ctx) where
           held = record { place = b.holds.place; words = a; at = b.holds.at; registers = put4 S fits κ y apart f0 a; like = four_like S fits κ y apart f0 a b.like; held = s4.held };
         }
 
+    unmoved : (r : ℕ) → r ≢ y.to → r ≢ y.from → r ≢ y.count → is_moved (copying y) r ≡ false
+    unmoved r nt nf nn =
+        let t : (r == y.to) ≡ false = elim (same_or_not r y.to) [ inl z ↦ absurd (nt z.0) | inr z ↦ z.1 ] in
+        let f : (r == y.from) ≡ false = elim (same_or_not r y.from) [ inl z ↦ absurd (nf z.0) | inr z ↦ z.1 ] in
+        let n : (r == y.count) ≡ false = elim (same_or_not r y.count) [ inl z ↦ absurd (nn z.0) | inr z ↦ z.1 ] in
+        λ i. t i || (f i || n i)
+
     -- the whole of it
-    pub copy_all : (pc p : ℕ) → Sparing (S.whole.frames κ.fn).registers (copy_turn y) 0 → Stand S.console.words S.address pc (copy_items (copying y)) p → (s : State Where) (m : machine.State) (c : ℕ) → s.cells (Reg y.count) ≡ Num c → is_count (Some c) ≡ true → s.cells (Reg y.one) ≡ Num 1 → m.counter ≡ pc → Mach S κ s m → (n : ℕ) (ls : List Bounds) →
+    pub copy_all : (pc p : ℕ) → Stand S.console.words S.address pc (copy_items (copying y)) p → (s : State Where) (m : machine.State) → m.counter ≡ pc → ReadyFor S κ (copying y) s m → (n : ℕ) (ls : List Bounds) →
         Sim (holder S) κ m (begin (holder S) s) p n ls (turn_done (meaning.does (lang S) n (meaning.below (lang S) n) (copy_turn y) (spent node_weight s)) (meaning.below (lang S) n (Loop (copy_turn y) Stop)))
-    copy_all pc p sparing st s m c is_c some is_one e h n ls =
+    copy_all pc p st s m e h n ls =
         let a = h.words in
-        let low = count_low c some in
-        let n1 = st.0 in
-        let n2 = st.2.0 in
-        let n3 = st.2.2.0 in
-        let n4 = st.2.2.2.0 in
-        let g = moves_in s m h pc n1 n2 n3 y.to y.from y.count lo.to lo.from lo.count e st.1 st.2.1 st.2.2.1 in
-        let m3 = g.to in
-        let counts : a.regs y.count ≡ c = subst (λ z. Stands (length s.world.store.objects) h.place z (a.regs y.count)) is_c (h.at.temps.in_regs y.count lo.count) in
-        let ones : a.regs y.one ≡ 1 = subst (λ z. Stands (length s.world.store.objects) h.place z (a.regs y.one)) is_one (h.at.temps.in_regs y.one lo.one) in
-        let inside : Inside S fits κ y apart lo s m3 h.registers n3 n4 = record {
+        let c = h.known.0 in
+        let low = count_low c h.known.2 in
+        let next = st.0 in
+        let counts : a.regs y.count ≡ c = subst (λ z. Stands (length s.world.store.objects) h.place z (a.regs y.count)) h.known.1 (h.at.temps.in_regs y.count lo.count) in
+        let ones : a.regs y.one ≡ 1 = subst (λ z. Stands (length s.world.store.objects) h.place z (a.regs y.one)) h.one (h.at.temps.in_regs y.one lo.one) in
+        let inside : Inside S fits κ y apart lo s m h.registers pc next = record {
           place = h.place;
           words = h.words;
           at = h.at;
-          like = λ r lt nf nt nn nc. h.like r lt;
+          like = λ r lt nf nt nn nc. h.like r lt (unmoved r nt nf nn);
           move = record {
-            held = g.held;
-            at = g.at;
-            line = st.2.2.2.1;
-            count = g.count ∙ h.like y.count (stays (copy_turn y) sparing y.count lo.count apart.four.count_eight);
-            source = g.source ∙ h.like y.from (stays (copy_turn y) sparing y.from lo.from apart.from_eight);
-            target = g.target ∙ h.like y.to (stays (copy_turn y) sparing y.to lo.to apart.four.to_eight);
+            held = h.held;
+            at = e;
+            line = st.1;
+            count = h.count;
+            source = h.read;
+            target = h.target;
             some = let z = low.0 in omega (arith, z, counts);
             few = let z = low.1 in omega (arith, z, counts);
           };
           one = ones;
         } in
-        after (lang S) (holder S) κ m (begin (holder S) s) (spent 3 s) n3 3 n n p ls (λ u. Inside S fits κ y apart lo s u h.registers n3 n4) (turn_done (meaning.does (lang S) n (meaning.below (lang S) n) (copy_turn y) (spent node_weight s)) (meaning.below (lang S) n (Loop (copy_turn y) Stop))) (omega arith)
-        (record {
-          steps = 3;
-          made = [];
-          to = m3;
-          by = g.by;
-          at = g.at;
-          held = inside;
-          events = sym (append-nil s.world.events);
-          cost = omega arith;
-          many = omega arith;
-        }) (turns S fits κ y apart lo n3 n4 p (put_back n4 p st.2.2.2.2) n ls s m3 h.registers inside)
+        let r = turn_done (meaning.does (lang S) n (meaning.below (lang S) n) (copy_turn y) (spent node_weight s)) (meaning.below (lang S) n (Loop (copy_turn y) Stop)) in
+        earlier (lang S) (holder S) κ m (begin (holder S) s) (begin (holder S) (spent 3 s)) p n ls r refl refl (omega arith) (turns S fits κ y apart lo pc next p (put_back next p st.2) n ls s m h.registers inside)

@@ -1,5 +1,6 @@
 -- The instructions of a loop that fills words.
-use Rattle.std.proofs.Common.{◌≡◌, ℕ, true, List, [], ◌∷◌, length, Some, refl, sym, ap, ◌∙◌, subst, arith, append-nil}
+use Rattle.std.proofs.Common.{◌≡◌, ◌≢◌, ℕ, inl, inr, false, List, [], ◌∷◌, length, Some, refl, ap, ◌∙◌, subst, arith}
+use Rattle.std.specs.Prelude.{◌==◌, ◌||◌}
 use Rattle.either.specs.declared.Either.TheVariants.{Left}
 use Rattle.kit_base.specs.Word.{add}
 use Rattle.v32_isa.specs.declared.instruction.Mov.TheVariants.{RegReg}
@@ -11,27 +12,24 @@ use Rattle.v32_isa.specs.Machine.Effect.{Ends as EndsIn}
 use Rattle.v32_isa.proofs.Steps.{reaches_on}
 use Rattle.asm_items.specs.declared.item.AsmItem.{AsmItem}
 use Rattle.asm_items.specs.declared.item.AsmItem.TheVariants as item
-use Rattle.obj_mem.specs.declared.cell.Cell.TheVariants.{Num}
 use Rattle.mid_code.specs.declared.placed.Where.{Where}
-use Rattle.mid_code.specs.declared.placed.Where.TheVariants.{Reg}
 use Rattle.mid_code.specs.Code.{Stop, Loop}
 use Rattle.mid_code.specs.Meaning.{turn_done, node_weight}
 use Rattle.mid_code.specs.Meaning as meaning
 use Rattle.mid_code.specs.States.{State, spent}
-use Rattle.asm_laws.specs.Copies.{copy_items, is_count}
+use Rattle.asm_laws.specs.Copies.{is_moved, copy_items}
 use Rattle.asm_laws.specs.Pieces.{register}
 use Rattle.asm_laws.specs.Operations.{Frame}
 use Rattle.asm_laws.specs.Placing.{Bounds}
 use Rattle.asm_laws.specs.Standing.{Stand}
-use Rattle.asm_laws.specs.Spare.{Sparing}
 use Rattle.asm_laws.specs.inner.Following.{begin, Sim}
 use Rattle.asm_laws.specs.Addresses.{Console, having}
 use Rattle.asm_laws.specs.Holds.{Setting, Fits, Ctx, Stands}
-use Rattle.asm_laws.specs.Calling.{Mach, lang, holder}
-use Rattle.asm_laws.proofs.Stepping.{reg_other}
-use Rattle.asm_laws.proofs.Control.{after}
+use Rattle.asm_laws.specs.Calling.{ReadyFor, lang, holder}
+use Rattle.asm_laws.proofs.Stepping.{same_or_not, reg_other}
+use Rattle.asm_laws.proofs.Control.{earlier}
 use Rattle.asm_laws.proofs.Leads.{Filler, Four, filling, fill_turn}
-use Rattle.asm_laws.proofs.CopyLoop.{count_low, writes_low, one_back, lea_act, move_act, stays, put_at, moves_in}
+use Rattle.asm_laws.proofs.CopyLoop.{count_low, writes_low, one_back, lea_act, move_act, put_at}
 use Rattle.asm_laws.proofs.Filled.{put2, two_like, Low, Inside, Behind, Put, turns}
 
 module _ (S : Setting) (fits : Fits S) (κ : Ctx) where
@@ -69,46 +67,38 @@ module _ (S : Setting) (fits : Fits S) (κ : Ctx) where
           held = record { place = b.holds.place; words = a; at = b.holds.at; registers = put2 S fits κ y apart f0 a; like = two_like S fits κ y apart f0 a b.like; held = s2.held };
         }
 
+    unmoved : (r : ℕ) → r ≢ y.to → r ≢ y.count → is_moved (filling y) r ≡ false
+    unmoved r nt nn =
+        let t : (r == y.to) ≡ false = elim (same_or_not r y.to) [ inl z ↦ absurd (nt z.0) | inr z ↦ z.1 ] in
+        let n : (r == y.count) ≡ false = elim (same_or_not r y.count) [ inl z ↦ absurd (nn z.0) | inr z ↦ z.1 ] in
+        λ i. t i || (false || n i)
+
     -- the whole of it
-    pub fill_all : (pc p : ℕ) → Sparing (S.whole.frames κ.fn).registers (fill_turn y) 0 → Stand S.console.words S.address pc (copy_items (filling y)) p → (s : State Where) (m : machine.State) (c : ℕ) → s.cells (Reg y.count) ≡ Num c → is_count (Some c) ≡ true → s.cells (Reg y.one) ≡ Num 1 → m.counter ≡ pc → Mach S κ s m → (n : ℕ) (ls : List Bounds) →
+    pub fill_all : (pc p : ℕ) → Stand S.console.words S.address pc (copy_items (filling y)) p → (s : State Where) (m : machine.State) → m.counter ≡ pc → ReadyFor S κ (filling y) s m → (n : ℕ) (ls : List Bounds) →
         Sim (holder S) κ m (begin (holder S) s) p n ls (turn_done (meaning.does (lang S) n (meaning.below (lang S) n) (fill_turn y) (spent node_weight s)) (meaning.below (lang S) n (Loop (fill_turn y) Stop)))
-    fill_all pc p sparing st s m c is_c some is_one e h n ls =
+    fill_all pc p st s m e h n ls =
         let a = h.words in
-        let low = count_low c some in
-        let n1 = st.0 in
-        let n2 = st.2.0 in
-        let n3 = st.2.2.0 in
-        let n4 = st.2.2.2.0 in
-        let g = moves_in S fits κ s m h pc n1 n2 n3 y.to y.cell y.count lo.to lo.cell lo.count e st.1 st.2.1 st.2.2.1 in
-        let m3 = g.to in
-        let counts : a.regs y.count ≡ c = subst (λ z. Stands (length s.world.store.objects) h.place z (a.regs y.count)) is_c (h.at.temps.in_regs y.count lo.count) in
-        let ones : a.regs y.one ≡ 1 = subst (λ z. Stands (length s.world.store.objects) h.place z (a.regs y.one)) is_one (h.at.temps.in_regs y.one lo.one) in
-        let inside : Inside S fits κ y apart lo s m3 h.registers n3 n4 = record {
+        let c = h.known.0 in
+        let low = count_low c h.known.2 in
+        let next = st.0 in
+        let counts : a.regs y.count ≡ c = subst (λ z. Stands (length s.world.store.objects) h.place z (a.regs y.count)) h.known.1 (h.at.temps.in_regs y.count lo.count) in
+        let ones : a.regs y.one ≡ 1 = subst (λ z. Stands (length s.world.store.objects) h.place z (a.regs y.one)) h.one (h.at.temps.in_regs y.one lo.one) in
+        let inside : Inside S fits κ y apart lo s m h.registers pc next = record {
           place = h.place;
           words = h.words;
           at = h.at;
-          like = λ r lt nt nn. h.like r lt;
+          like = λ r lt nt nn. h.like r lt (unmoved r nt nn);
           move = record {
-            held = g.held;
-            at = g.at;
-            line = st.2.2.2.1;
-            count = g.count ∙ h.like y.count (stays S fits κ (fill_turn y) sparing y.count lo.count apart.count_eight);
-            source = g.source ∙ h.like y.cell (stays S fits κ (fill_turn y) sparing y.cell lo.cell apart.cell_eight);
-            target = g.target ∙ h.like y.to (stays S fits κ (fill_turn y) sparing y.to lo.to apart.to_eight);
+            held = h.held;
+            at = e;
+            line = st.1;
+            count = h.count;
+            source = h.read;
+            target = h.target;
             some = let z = low.0 in omega (arith, z, counts);
             few = let z = low.1 in omega (arith, z, counts);
           };
           one = ones;
         } in
-        after (lang S) (holder S) κ m (begin (holder S) s) (spent 3 s) n3 3 n n p ls (λ u. Inside S fits κ y apart lo s u h.registers n3 n4) (turn_done (meaning.does (lang S) n (meaning.below (lang S) n) (fill_turn y) (spent node_weight s)) (meaning.below (lang S) n (Loop (fill_turn y) Stop))) (omega arith)
-        (record {
-          steps = 3;
-          made = [];
-          to = m3;
-          by = g.by;
-          at = g.at;
-          held = inside;
-          events = sym (append-nil s.world.events);
-          cost = omega arith;
-          many = omega arith;
-        }) (turns S fits κ y apart lo n3 n4 p (put_back n4 p st.2.2.2.2) n ls s m3 h.registers inside)
+        let r = turn_done (meaning.does (lang S) n (meaning.below (lang S) n) (fill_turn y) (spent node_weight s)) (meaning.below (lang S) n (Loop (fill_turn y) Stop)) in
+        earlier (lang S) (holder S) κ m (begin (holder S) s) (begin (holder S) (spent 3 s)) p n ls r refl refl (omega arith) (turns S fits κ y apart lo pc next p (put_back next p st.2) n ls s m h.registers inside)

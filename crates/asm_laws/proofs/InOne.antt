@@ -25,7 +25,8 @@ use Rattle.asm_laws.specs.Spare.{beside, operand, in_slots, at_address, at_sum, 
 use Rattle.asm_laws.specs.Spare as spare
 use Rattle.asm_laws.specs.Operations.{Frame, Whole, fetch, fetches, hand, op_items, word_put, first_word, summed, first_place, unturned, copied, copied_address, with_copy, with_sum, with_word, taken, brought, either, added, known, addend, using_it, is_spared, with_known, with_more, in_one, before_it, one_or_more, puts_items, led_items, group_items, given_first, made_both, made_known, made_with, first_made, made_of, made_items, made_or, next_items}
 use Rattle.asm_laws.specs.Operations as emitted
-use Rattle.asm_laws.specs.Copies.{lead}
+use Rattle.asm_laws.specs.declared.copying.Copying.{Copying}
+use Rattle.asm_laws.specs.Copies.{lead, move_items}
 
 module _ (V : ℕ → Type 0) where
   -- a register, and a word of which V holds
@@ -333,17 +334,21 @@ module _ (W : Whole) (F : Frame) (P : List AsmItem → Type 0) (V : ℕ → Type
   made_is o (Some (k, Both u a b)) other fit one two both h = both u fit.0 a b fit.1
   made_is o (Some (k, Known u a w)) other fit one two both h = known_is u 9 a w (added u w) (omega arith) fit.0 (added_is u w fit.0 fit.1) one two
 
-  -- and of all that comes next
-  pub next_is : (o : OpT Where) (c : NodesT Where) → ((t : Where) (n : ℕ) → o ≡ ConstO t n → V n × V (sub 0 n) × ((x y : ℕ) → V (add x y))) → ((t : Where) (k : ℕ) → o ≡ GlobalO t k → V (get_or W.globals k 0) × V (sub 0 (get_or W.globals k 0)) × ((x y : ℕ) → V (add x y))) → One → Behind → OfBoth o → P (group_items W F o c) → P (next_items W F o c)
+  -- and of what is given back right behind, where that comes next, or else of other items
+  pub made_or_is : (o : OpT Where) (c : NodesT Where) (other : List AsmItem) → ((t : Where) (n : ℕ) → o ≡ ConstO t n → V n × V (sub 0 n) × ((x y : ℕ) → V (add x y))) → ((t : Where) (k : ℕ) → o ≡ GlobalO t k → V (get_or W.globals k 0) × V (sub 0 (get_or W.globals k 0)) × ((x y : ℕ) → V (add x y))) → One → Behind → OfBoth o → P other → P (made_or F (made_of W F o c) other)
   unfolding made_of
-  next_is o c f g one two both h =
-      made_is o (first_made (made_both o (given_first c)) (made_with F (word_put W o) c)) (group_items W F o c)
+  made_or_is o c other f g one two both h =
+      made_is o (first_made (made_both o (given_first c)) (made_with F (word_put W o) c)) other
       (first_fit o (made_both o (given_first c)) (made_with F (word_put W o) c) (both_fit o (given_first c)) (with_fit o (word_put W o) c (put_is V W o f g))) one two both h
 
+  -- and of all that comes next
+  pub next_is : (o : OpT Where) (c : NodesT Where) → ((t : Where) (n : ℕ) → o ≡ ConstO t n → V n × V (sub 0 n) × ((x y : ℕ) → V (add x y))) → ((t : Where) (k : ℕ) → o ≡ GlobalO t k → V (get_or W.globals k 0) × V (sub 0 (get_or W.globals k 0)) × ((x y : ℕ) → V (add x y))) → One → Behind → OfBoth o → P (group_items W F o c) → P (next_items W F o c)
+  next_is o c f g one two both h = made_or_is o c (group_items W F o c) f g one two both h
+
 -- the same where operations before a loop that copies words are done one after another
-pub group_is : (W : Whole) (F : Frame) (P : List AsmItem → Type 0) (o : OpT Where) (c : NodesT Where) → P (one_or_more W F o (in_one W F o c)) → ((k : ℕ) → lead (Do o c) ≡ Some k → P (puts_items W (Do o c) k)) → P (group_items W F o c)
+pub group_is : (W : Whole) (F : Frame) (P : List AsmItem → Type 0) (o : OpT Where) (c : NodesT Where) → P (one_or_more W F o (in_one W F o c)) → ((k : ℕ) (y : Copying) → lead (Do o c) ≡ Some (k, y) → P (puts_items W F y (Do o c) k ++ move_items y (Do o c))) → P (group_items W F o c)
 group_is W F P o c one puts = go (lead (Do o c)) refl
   where
-    go : (x : Option ℕ) → lead (Do o c) ≡ x → P (led_items W F o c x)
+    go : (x : Option (ℕ × Copying)) → lead (Do o c) ≡ x → P (led_items W F o c x)
     go None e = one
-    go (Some k) e = puts k e
+    go (Some (k, y)) e = puts k y e

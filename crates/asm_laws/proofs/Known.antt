@@ -31,7 +31,7 @@ use Rattle.mid_code.specs.Runs.{weight}
 use Rattle.asm_laws.specs.Labelled.{HasLabel}
 use Rattle.asm_laws.specs.Names.{jump_label, literal_label, function_label}
 use Rattle.asm_laws.specs.Moves.{Move, in_order}
-use Rattle.asm_laws.specs.Operations.{Frame, Whole, keep, fetches, keeps, keeps_some, hand, brings, takes, aim, lays, moves, changes, is_direct, in_place, apart, is_turned, turned_or_apart, computes, slot_arg, slot_args, moved_items, args_items, call_items, op_items, in_one, one_or_more, giving, start_frame, literal_items, literals_items, puts_items, put_item, group_items, giving_left, next_items, next_more, word_put}
+use Rattle.asm_laws.specs.Operations.{Frame, Whole, keep, fetches, keeps, keeps_some, hand, brings, takes, aim, lays, moves, changes, is_direct, in_place, apart, is_turned, turned_or_apart, computes, slot_arg, slot_args, moved_items, args_items, call_items, op_items, in_one, one_or_more, giving, start_frame, literal_items, literals_items, put_items, puts_items, group_items, giving_left, next_items, next_more}
 use Rattle.asm_laws.specs.Pieces.{register, is_in, turned}
 use Rattle.asm_laws.specs.Framing.{frame_made, frame_gone}
 use Rattle.asm_laws.proofs.Leaving.{left_is}
@@ -41,7 +41,8 @@ use Rattle.asm_laws.specs.inner.Emitted.{labels, functions_labels, enclosing, ju
 use Rattle.asm_laws.proofs.Programs.{mapped_from}
 use Rattle.asm_laws.proofs.Walked.{total_more}
 use Rattle.asm_laws.specs.declared.copying.Copying.{Copying}
-use Rattle.asm_laws.specs.Copies.{copy_at, copy_or, items_from}
+use Rattle.asm_laws.specs.Copies.{goes_to, move_items, block_of, back_items, copy_at, copy_or}
+use Rattle.asm_laws.proofs.Putting.{moves_are}
 use Rattle.asm_laws.proofs.InOne.{TakesWord, one_or_more_is, group_is, next_is}
 use Rattle.asm_laws.proofs.Enclosing.{innermost, further}
 use Rattle.asm_laws.proofs.LabelKinds.{Differ}
@@ -222,24 +223,28 @@ module _ (x : CodeT Where) (W : Whole) (Q : List ℕ → Type 0) (of_function : 
   one_uses : (m : ℕ) (F : Frame) (o : OpT Where) (c : NodesT Where) → IsOp x m o → Uses Q (one_or_more W F o (in_one W F o c))
   one_uses m F o c ok = one_or_more_is W F (Uses Q) (λ v. Unit {0}) o c (λ t n e. (tt, tt, λ x y. tt)) (λ t k e. (tt, tt, λ x y. tt)) (op_uses m F o ok) taking_uses (λ p r i lt h. (fetch_uses F p r, taking_uses i h), λ r q i lr lq h. (tt, taking_uses i h))
 
-  puts_uses : (c : NodesT Where) (k : ℕ) → Uses Q (puts_items W c k)
-  puts_uses (Do o c) (suc k) = uses_append Q (put_item (word_put W o)) (puts_items W c k) (put (word_put W o)) (puts_uses c k)
-    where
-      put : (x : Option (ℕ × ℕ)) → Uses Q (put_item x)
-      put None = tt
-      put (Some (r, w)) = (tt, tt)
-  puts_uses (Do o c) zero = tt
-  puts_uses Stop k = tt
-  puts_uses (Call t g args c) k = tt
-  puts_uses (Choose p a b c) k = tt
-  puts_uses (Block b c) k = tt
-  puts_uses (Loop b c) k = tt
-  puts_uses (Leave j c) k = tt
-  puts_uses (Again j c) k = tt
-  puts_uses (Return p c) k = tt
+  put_uses : (F : Frame) (y : Copying) (o : OpT Where) → Uses Q (put_items W F y o)
+  put_uses F y (ConstO (Reg r) n) = (tt, tt)
+  put_uses F y (GlobalO (Reg r) k) = (tt, tt)
+  put_uses F y (LocalO (Reg r) k) = (tt, tt)
+  put_uses F y (MoveO (Reg r) p) = moves_uses F (Reg (goes_to y r)) p
+  put_uses F y _ = tt
+
+  puts_uses : (F : Frame) (y : Copying) (c : NodesT Where) (k : ℕ) → Uses Q (puts_items W F y c k)
+  puts_uses F y (Do o c) (suc k) = uses_append Q (put_items W F y o) (puts_items W F y c k) (put_uses F y o) (puts_uses F y c k)
+  puts_uses F y (Do o c) zero = tt
+  puts_uses F y Stop k = tt
+  puts_uses F y (Call t g args c) k = tt
+  puts_uses F y (Choose p a b c) k = tt
+  puts_uses F y (Block b c) k = tt
+  puts_uses F y (Loop b c) k = tt
+  puts_uses F y (Leave j c) k = tt
+  puts_uses F y (Again j c) k = tt
+  puts_uses F y (Return p c) k = tt
 
   group_uses : (m : ℕ) (F : Frame) (o : OpT Where) (c : NodesT Where) → IsOp x m o → Uses Q (group_items W F o c)
-  group_uses m F o c ok = group_is W F (Uses Q) o c (one_uses m F o c ok) (λ k e. puts_uses (Do o c) k)
+  group_uses m F o c ok = group_is W F (Uses Q) o c (one_uses m F o c ok)
+      (λ k y e. uses_append Q (puts_items W F y (Do o c) k) (move_items y (Do o c)) (puts_uses F y (Do o c) k) (moves_are (Uses Q) tt (uses_append Q) (λ t r. (tt, tt)) y (Do o c)))
 
   next_uses : (m : ℕ) (F : Frame) (o : OpT Where) (c : NodesT Where) → IsOp x m o → Uses Q (next_items W F o c)
   next_uses m F o c ok =
@@ -331,13 +336,13 @@ module _ (x : CodeT Where) (W : Whole) (Q : List ℕ → Type 0) (of_function : 
     looped_uses true n all part test ls few j k ua up ut = rotated_uses n part test ls few j k up ut
     looped_uses false n all part test ls few j k ua up ut = enclosed_uses n all ls few j k ua
 
-    copy_uses : (f : Option ℕ) (y : Copying) → Uses Q (items_from f y)
-    copy_uses None y = (tt, (tt, (tt, (tt, (tt, (tt, tt))))))
-    copy_uses (Some f) y = (tt, (tt, (tt, (tt, (tt, (tt, (tt, (tt, tt))))))))
+    back_uses : (f : Option ℕ) (y : Copying) → Uses Q (item.Op (instr.Plain (block_of f)) ∷ back_items f y)
+    back_uses None y = (tt, (tt, (tt, tt)))
+    back_uses (Some f) y = (tt, (tt, (tt, (tt, (tt, tt)))))
 
     copied_uses : (y : Option Copying) (xs : List AsmItem) → Knows (copy_or y xs) → (Knows xs → Uses Q xs) → Uses Q (copy_or y xs)
     copied_uses None xs k go = go k
-    copied_uses (Some y) xs k go = copy_uses y.from y
+    copied_uses (Some y) xs k go = back_uses y.from y
 
     again_uses : (ls : List ℕ) (k : ℕ) (last : Behind) → Q (jump_label (enclosing ls k)) → Uses Q (again ls k last)
     again_uses ls k last q = one_of_both ((k == 0) && is_turn last) [] (jump (enclosing ls k) ∷ []) tt (q, tt)

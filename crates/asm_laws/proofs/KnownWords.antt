@@ -1,29 +1,31 @@
 -- What is known before a loop that copies words.
-use Rattle.std.proofs.Common.{◌≡◌, ℕ, zero, suc, Bool, true, false, cond, List, Option, Some, None, refl, sym, ap, ◌∙◌, subst}
-use Rattle.std.specs.Prelude.{◌==◌, ◌&&◌, not}
+use Rattle.std.proofs.Common.{◌≡◌, ℕ, zero, suc, Bool, true, false, cond, List, Option, Some, None, refl, sym, ap, ◌∙◌}
+use Rattle.std.specs.Prelude.{◌==◌, ◌&&◌, not, Ok, Err}
 use Rattle.std.proofs.lemmas.Bool.{eqb-true}
 use Rattle.v32_isa.specs.declared.instruction.Two.{Two as TwoOf}
 use Rattle.v32_isa.specs.declared.instruction.Two.TheVariants.{IADD}
 use Rattle.v32_isa.specs.declared.instruction.Instr.{Instr}
 use Rattle.asm_items.specs.Items.{Imm}
-use Rattle.obj_mem.specs.declared.cell.Cell.TheVariants.{Num, Ptr}
+use Rattle.v32_isa.specs.State as machine
+use Rattle.obj_mem.specs.declared.cell.Cell.{Cell}
+use Rattle.obj_mem.specs.declared.cell.Cell.TheVariants.{Num}
 use Rattle.mid_code.specs.declared.placed.Where.{Where}
 use Rattle.mid_code.specs.declared.placed.Where.TheVariants.{Reg, Slot}
 use Rattle.mid_code.specs.Code.{NodesT, Stop, Do, Call, Choose, Block, Loop, Leave, Again, Return, OpT, ConstO, TwoO, GlobalO, StepO, LoadO, StoreO, OutO}
 use Rattle.mid_code.specs.Meaning.{Did, On, Ends}
-use Rattle.mid_code.specs.States.{State}
+use Rattle.mid_code.specs.States.{State, to, registers_and_slots}
+use Rattle.obj_mem.specs.declared.refusal.Refusal.TheVariants.{Strays, Faults}
+use Rattle.obj_mem.specs.Queries.{Answer}
 use Rattle.asm_laws.specs.declared.used.Used.{Used}
 use Rattle.asm_laws.specs.declared.used.Used.TheVariants.{Indexed, Offset, Element}
-use Rattle.asm_laws.specs.declared.copying.Copying.{Copying}
 use Rattle.asm_laws.specs.Pieces.{register, is_in, turned, other_word, loads_there}
 use Rattle.asm_laws.specs.Spare.{beside, operand, in_slots, at_address, at_sum, index, index_behind, indexed, offset_load, offset_sum, offset_step, offset_behind, offset, adds, element_behind, element, or_else, used_by}
 use Rattle.asm_laws.specs.Spare as groups
-use Rattle.asm_laws.specs.Copies.{copy_of, last_put, is_count, is_one, lead}
-use Rattle.asm_laws.specs.Operations.{Frame, Whole, word_put, summed, first_place, unturned, copied, copied_address, with_copy, with_sum, with_word, is_spared, with_known, in_one, more_of, led_more}
-use Rattle.asm_laws.specs.inner.Following.{knows}
-use Rattle.asm_laws.specs.Holds.{Setting}
-use Rattle.asm_laws.specs.Calling.{lang, holder, shapes}
-use Rattle.asm_laws.proofs.Leads.{puts_before, puts_elim, lead_is}
+use Rattle.asm_laws.specs.Copies.{is_count, is_one}
+use Rattle.asm_laws.specs.Operations.{Frame, Whole, word_put, summed, first_place, unturned, copied, copied_address, with_copy, with_sum, with_word, is_spared, with_known, in_one, more_of}
+use Rattle.asm_laws.specs.inner.Following.{at_front}
+use Rattle.asm_laws.specs.Holds.{Setting, Ctx}
+use Rattle.asm_laws.specs.Calling.{Mach, holder}
 
 -- so many operations come first
 abbrev pub AreOps : ℕ → NodesT Where → Type 0
@@ -179,71 +181,44 @@ state_of : Did (State Where) → State Where
 state_of (On t) = t
 state_of (Ends f t) = t
 
-some_is : (n m : ℕ) → Some n ≡ Some m → n ≡ m
-some_is n m e = cc
+module _ (S : Setting) (κ : Ctx) where
+  -- behind operations the machine stands as it does elsewhere
+  none_ahead : (c : NodesT Where) (s : State Where) (m : machine.State) → Mach S κ s m → at_front (holder S) κ c zero s m
+  none_ahead Stop s m h = h
+  none_ahead (Do o c) s m h = h
+  none_ahead (Call t f args c) s m h = h
+  none_ahead (Choose p x y c) s m h = h
+  none_ahead (Block b c) s m h = h
+  none_ahead (Loop b c) s m h = h
+  none_ahead (Leave j c) s m h = h
+  none_ahead (Again j c) s m h = h
+  none_ahead (Return w c) s m h = h
+
+  pub ops_ahead : (k : ℕ) (c : NodesT Where) (s : State Where) (m : machine.State) → AreOps k c → Mach S κ s m → at_front (holder S) κ c k s m
+  ops_ahead zero c s m a h = none_ahead c s m h
+  ops_ahead (suc k) (Do o c) s m a h = ops_ahead k c s m a h
+  ops_ahead (suc k) _ s m a h = absurd a
 
 module _ (S : Setting) where
-  -- nothing is known behind operations
-  none_known : (c : NodesT Where) (s : State Where) → knows (holder S) c zero s
-  none_known Stop s = tt
-  none_known (Do o c) s = tt
-  none_known (Call t f args c) s = tt
-  none_known (Choose p x y c) s = tt
-  none_known (Block b c) s = tt
-  none_known (Loop b c) s = tt
-  none_known (Leave j c) s = tt
-  none_known (Again j c) s = tt
-  none_known (Return w c) s = tt
-
-  ops_know : (k : ℕ) (c : NodesT Where) (s : State Where) → AreOps k c → knows (holder S) c k s
-  ops_know zero c s h = none_known c s
-  ops_know (suc k) (Do o c) s h = λ t q. ops_know k c t h
-  ops_know (suc k) _ s h = absurd h
-
   -- a word that is known stands in its register
-  abbrev Stored : ℕ → Option ℕ → State Where → Type 0
+  abbrev pub Stored : ℕ → Option ℕ → State Where → Type 0
   Stored r x s = (n : ℕ) → x ≡ Some n → s.cells (Reg r) ≡ Num n
 
-  abbrev PutsKnow : NodesT Where → ℕ → Copying → Type 0
-  PutsKnow c k y = (x z : Option ℕ) (s : State Where) → Stored y.count x s → Stored y.one z s → is_count (last_put y.count c x) ≡ true → is_one (last_put y.one c z) ≡ true → knows (holder S) c (suc k) s
-
-  same_copy : (b : NodesT Where) (y z : Copying) → copy_of b ≡ Some y → copy_of b ≡ Some z → y ≡ z
-  same_copy b y z p q = let e : Some y ≡ Some z = sym p ∙ q in cc
-
-  counted : (x : Option ℕ) (r : ℕ) (s : State Where) → Stored r x s → is_count x ≡ true → (n : ℕ) × (s.cells (Reg r) ≡ Num n) × (is_count (Some n) ≡ true)
+  pub counted : (x : Option ℕ) (r : ℕ) (s : State Where) → Stored r x s → is_count x ≡ true → (n : ℕ) × (s.cells (Reg r) ≡ Num n) × (is_count (Some n) ≡ true)
   counted None r s h e = absurd cc
   counted (Some n) r s h e = (n, h n refl, e)
 
-  one_is_known : (x : Option ℕ) (r : ℕ) (s : State Where) → Stored r x s → is_one x ≡ true → s.cells (Reg r) ≡ Num 1
+  pub one_is_known : (x : Option ℕ) (r : ℕ) (s : State Where) → Stored r x s → is_one x ≡ true → s.cells (Reg r) ≡ Num 1
   one_is_known None r s h e = absurd cc
   one_is_known (Some n) r s h e = h n refl ∙ ap Num (eqb-true n 1 e)
 
-  put_stored : (r q n : ℕ) (x : Option ℕ) (s t : State Where) → (lang S).act (ConstO (Reg q) n) s ≡ On t → Stored r x s → Stored r (cond (r == q) (Some n) x) t
+  -- a register takes a cell, which is a word that is known, or not
+  pub put_stored : (r q : ℕ) (x val : Option ℕ) (s t : State Where) (c : Answer Cell) → ((n : ℕ) → val ≡ Some n → c ≡ Ok (Num n)) → to registers_and_slots (Reg q) c s ≡ On t → Stored r x s → Stored r (cond (r == q) val x) t
   unfolding state_of
-  put_stored r q n x s t e h = go (r == q) (ap (λ z. (state_of z).cells (Reg r)) (sym e))
+  put_stored r q x val s t (Ok c) is e h = go (r == q) (ap (λ z. (state_of z).cells (Reg r)) (sym e))
     where
-      go : (b : Bool) → t.cells (Reg r) ≡ cond b (Num n) (s.cells (Reg r)) → Stored r (cond b (Some n) x) t
-      go true f = λ m i. f ∙ ap Num (some_is n m i)
-      go false f = λ m i. f ∙ h m i
-
-  forgets : (r q n : ℕ) (x : Option ℕ) (s t : State Where) → (lang S).act (GlobalO (Reg q) n) s ≡ On t → Stored r x s → Stored r (cond (r == q) None x) t
-  unfolding state_of
-  forgets r q n x s t e h = go (r == q) (ap (λ z. (state_of z).cells (Reg r)) (sym e))
-    where
-      go : (b : Bool) → t.cells (Reg r) ≡ cond b (Ptr n 0) (s.cells (Reg r)) → Stored r (cond b None x) t
-      go true f = λ m i. absurd cc
-      go false f = λ m i. f ∙ h m i
-
-  puts_know : (c : NodesT Where) (k : ℕ) (y : Copying) → puts_before c ≡ Some (k, y) → PutsKnow c k y
-  unfolding last_put
-  puts_know c k y e = puts_elim PutsKnow
-      (λ b c y q x z s hx hz ec eo. record { count = λ w p. subst (λ v. (n : ℕ) × (s.cells (Reg v.count) ≡ Num n) × (is_count (Some n) ≡ true)) (same_copy b y w q p) (counted x y.count s hx ec); one = λ w p. subst (λ v. s.cells (Reg v.one) ≡ Num 1) (same_copy b y w q p) (one_is_known z y.one s hz eo) })
-      (λ r n c k y q know x z s hx hz ec eo t a. know (cond (y.count == r) (Some n) x) (cond (y.one == r) (Some n) z) t (put_stored y.count r n x s t a hx) (put_stored y.one r n z s t a hz) ec eo)
-      (λ r n c k y q know x z s hx hz ec eo t a. know (cond (y.count == r) None x) (cond (y.one == r) None z) t (forgets y.count r n x s t a hx) (forgets y.one r n z s t a hz) ec eo) c k y e
-
-  pub op_knows : (κ_fn pc p more : ℕ) (o : OpT Where) (c : NodesT Where) (s t : State Where) → (shapes S).op κ_fn pc o c more p → (lang S).act o s ≡ On t → knows (holder S) c more t
-  op_knows f pc p more o c s t st q = subst (λ k. knows (holder S) c k t) (sym st.3) (go (lead (Do o c)) refl)
-    where
-      go : (x : Option ℕ) → lead (Do o c) ≡ x → knows (holder S) c (led_more S.whole (S.whole.frames f) o c x) t
-      go None e = ops_know _ c t (one_is S.whole (S.whole.frames f) o c)
-      go (Some k) e = let l = lead_is (Do o c) k e in puts_know (Do o c) k l.y l.puts None None s (λ n i. absurd cc) (λ n i. absurd cc) l.count l.one t q
+      go : (b : Bool) → t.cells (Reg r) ≡ cond b c (s.cells (Reg r)) → Stored r (cond b val x) t
+      go true f = λ n i. f ∙ (let e : Ok c ≡ Ok (Num n) = is n i in cc)
+      go false f = λ n i. f ∙ h n i
+  put_stored r q x val s t (Err Strays) is e h = absurd cc
+  put_stored r q x val s t (Err (Faults n)) is e h = absurd cc

@@ -1,13 +1,13 @@
 -- The loops that copy words or fill them, and the operations before them, as they are recognised.
-use Rattle.std.proofs.Common.{◌≡◌, ◌≢◌, ℕ, zero, suc, ◌+◌, ◌<◌, ◌⊎◌, inl, inr, Bool, true, false, cond, Option, Some, None, refl, sym, ap, ◌∙◌, subst, arith}
-use Rattle.std.specs.Prelude.{◌==◌, ◌&&◌, not}
+use Rattle.std.proofs.Common.{◌≡◌, ◌≢◌, ℕ, zero, suc, ◌+◌, ◌≤◌, ◌⊎◌, inl, inr, Bool, true, false, cond, Option, Some, None, refl, sym, ap, ◌∙◌, subst, arith}
+use Rattle.std.specs.Prelude.{◌==◌, ◌&&◌, ◌||◌, not}
 use Rattle.std.proofs.lemmas.Bool.{eqb-true, eqb-false}
 use Rattle.v32_isa.specs.declared.instruction.Two.TheVariants.{ISUB}
 use Rattle.mid_code.specs.declared.placed.Where.{Where}
 use Rattle.mid_code.specs.declared.placed.Where.TheVariants.{Reg}
-use Rattle.mid_code.specs.Code.{NodesT, Stop, Do, Choose, Loop, Again, ConstO, TwoO, GlobalO, StepO, LoadO, StoreO}
+use Rattle.mid_code.specs.Code.{NodesT, Stop, Do, Choose, Loop, Again, OpT, ConstO, MoveO, TwoO, GlobalO, LocalO, StepO, LoadO, StoreO}
 use Rattle.asm_laws.specs.declared.copying.Copying.{Copying}
-use Rattle.asm_laws.specs.Copies.{steps_by, steps_to, steps_on, goes_round, four_differ, differ, is_copy, ends_here, turns_here, copy_counted, copy_stored, copy_of, copy_after, puts_ahead, last_put, is_count, is_one, leads, lead}
+use Rattle.asm_laws.specs.Copies.{steps_by, steps_to, steps_on, goes_round, four_differ, differ, is_copy, ends_here, turns_here, copy_counted, copy_stored, copy_of, put_into, copy_after, reads_moved, puts_ahead, last_put, is_count, is_one, leads_to, leads, lead}
 
 both : (p q : Bool) → p && q ≡ true → (p ≡ true) × (q ≡ true)
 both true true e = (refl, refl)
@@ -246,6 +246,8 @@ no_more (Some y) = Some (0, y)
 unfoldable pub puts_before : NodesT Where → Option (ℕ × Copying)
 puts_before (Do (ConstO (Reg r) n) c) = one_more (puts_before c)
 puts_before (Do (GlobalO (Reg r) k) c) = one_more (puts_before c)
+puts_before (Do (LocalO (Reg r) k) c) = one_more (puts_before c)
+puts_before (Do (MoveO (Reg r) p) c) = one_more (puts_before c)
 puts_before (Loop b c) = no_more (copy_of b)
 puts_before _ = None
 
@@ -268,32 +270,65 @@ more_is : (x : Option (ℕ × Copying)) (k : ℕ) (y : Copying) → one_more x �
 more_is None k y e = absurd cc
 more_is (Some (j, z)) k y e = let p = pair_is (suc j) z k y e in (j, sym p.0, λ i. Some (j, p.1 i))
 
+some_k : (j k : ℕ) → Some j ≡ Some k → j ≡ k
+some_k j k e = cc
+
 none_is : (x : Option Copying) (k : ℕ) (y : Copying) → no_more x ≡ Some (k, y) → (k ≡ 0) × (x ≡ Some y)
 none_is None k y e = absurd cc
 none_is (Some z) k y e = let p = pair_is 0 z k y e in (sym p.0, ap Some p.1)
 
 -- what holds of the loop, and of each operation before it where it holds behind that
 pub puts_elim : (P : NodesT Where → ℕ → Copying → Type 0) → ((b c : NodesT Where) (y : Copying) → copy_of b ≡ Some y → P (Loop b c) 0 y) →
-    ((r n : ℕ) (c : NodesT Where) (k : ℕ) (y : Copying) → puts_before c ≡ Some (k, y) → P c k y → P (Do (ConstO (Reg r) n) c) (suc k) y) →
-    ((r n : ℕ) (c : NodesT Where) (k : ℕ) (y : Copying) → puts_before c ≡ Some (k, y) → P c k y → P (Do (GlobalO (Reg r) n) c) (suc k) y) →
+    ((o : OpT Where) (r : ℕ) (c : NodesT Where) (k : ℕ) (y : Copying) → put_into o ≡ Some r → puts_before c ≡ Some (k, y) → P c k y → P (Do o c) (suc k) y) →
     (c : NodesT Where) (k : ℕ) (y : Copying) → puts_before c ≡ Some (k, y) → P c k y
 unfolding puts_before
-puts_elim P base const global (Do (ConstO (Reg r) n) c) k y e =
+puts_elim P base step (Do (ConstO (Reg r) n) c) k y e =
     let i = more_is (puts_before c) k y e in
-    subst (λ h. P (Do (ConstO (Reg r) n) c) h y) (sym i.1) (const r n c i.0 y i.2 (puts_elim P base const global c i.0 y i.2))
-puts_elim P base const global (Do (GlobalO (Reg r) n) c) k y e =
+    subst (λ h. P (Do (ConstO (Reg r) n) c) h y) (sym i.1) (step (ConstO (Reg r) n) r c i.0 y refl i.2 (puts_elim P base step c i.0 y i.2))
+puts_elim P base step (Do (GlobalO (Reg r) n) c) k y e =
     let i = more_is (puts_before c) k y e in
-    subst (λ h. P (Do (GlobalO (Reg r) n) c) h y) (sym i.1) (global r n c i.0 y i.2 (puts_elim P base const global c i.0 y i.2))
-puts_elim P base const global (Loop b c) k y e =
+    subst (λ h. P (Do (GlobalO (Reg r) n) c) h y) (sym i.1) (step (GlobalO (Reg r) n) r c i.0 y refl i.2 (puts_elim P base step c i.0 y i.2))
+puts_elim P base step (Do (LocalO (Reg r) n) c) k y e =
+    let i = more_is (puts_before c) k y e in
+    subst (λ h. P (Do (LocalO (Reg r) n) c) h y) (sym i.1) (step (LocalO (Reg r) n) r c i.0 y refl i.2 (puts_elim P base step c i.0 y i.2))
+puts_elim P base step (Do (MoveO (Reg r) p) c) k y e =
+    let i = more_is (puts_before c) k y e in
+    subst (λ h. P (Do (MoveO (Reg r) p) c) h y) (sym i.1) (step (MoveO (Reg r) p) r c i.0 y refl i.2 (puts_elim P base step c i.0 y i.2))
+puts_elim P base step (Loop b c) k y e =
     let i = none_is (copy_of b) k y e in
     subst (λ h. P (Loop b c) h y) (sym i.0) (base b c y i.1)
-puts_elim P base const global _ k y e = absurd cc
+puts_elim P base step _ k y e = absurd cc
 
--- a group of such operations, its registers, and that they are few
-pub record Leads (c : NodesT Where) (k : ℕ) : Type 0 where
-  pub y : Copying
+-- an operation that comes first is counted
+abbrev pub Positive : NodesT Where → ℕ → Type 0
+Positive (Do o c) k = 1 ≤ k
+Positive _ k = Unit {0}
+
+pub some_put : (c : NodesT Where) (k : ℕ) (y : Copying) → puts_before c ≡ Some (k, y) → Positive c k
+some_put = puts_elim (λ c k y. Positive c k) (λ b c y q. tt) (λ o r c k y p q h. omega arith)
+
+-- what holds of operations that put a word into a register
+pub put_elim : (P : OpT Where → ℕ → Type 0) → ((r n : ℕ) → P (ConstO (Reg r) n) r) → ((r k : ℕ) → P (GlobalO (Reg r) k) r) → ((r k : ℕ) → P (LocalO (Reg r) k) r) → ((r : ℕ) (p : Where) → P (MoveO (Reg r) p) r) →
+    (o : OpT Where) (r : ℕ) → put_into o ≡ Some r → P o r
+put_elim P const global local move (ConstO (Reg q) n) r e = subst (P (ConstO (Reg q) n)) (some_k q r e) (const q n)
+put_elim P const global local move (GlobalO (Reg q) k) r e = subst (P (GlobalO (Reg q) k)) (some_k q r e) (global q k)
+put_elim P const global local move (LocalO (Reg q) k) r e = subst (P (LocalO (Reg q) k)) (some_k q r e) (local q k)
+put_elim P const global local move (MoveO (Reg q) p) r e = subst (P (MoveO (Reg q) p)) (some_k q r e) (move q p)
+put_elim P const global local move _ r e = absurd cc
+
+-- an operation that takes a word from a register that is moved later
+abbrev pub takes_moved : Copying → OpT Where → Bool
+takes_moved y (MoveO t p) = reads_moved y p
+takes_moved y o = false
+
+abbrev pub AllClear : Copying → NodesT Where → ℕ → Type 0
+AllClear y (Do o c) (suc k) = (takes_moved y o ≡ false) × AllClear y c k
+AllClear y _ k = Unit {0}
+
+-- a group of such operations, and its registers
+pub record Leads (c : NodesT Where) (k : ℕ) (y : Copying) : Type 0 where
   pub puts : puts_before c ≡ Some (k, y)
-  pub few : k < 5
+  pub clear : AllClear y c k
   pub count : is_count (last_put y.count c None) ≡ true
   pub one : is_one (last_put y.one c None) ≡ true
 
@@ -301,51 +336,61 @@ pub record Leads (c : NodesT Where) (k : ℕ) : Type 0 where
 record Counts (j k : ℕ) (c : NodesT Where) (y : Copying) : Type 0 where
   more : ℕ
   total : k ≡ j + more
-  few : k < 5
   puts : puts_before c ≡ Some (more, y)
+  clear : AllClear y c more
 
-not_four : (j : ℕ) → (j == 4) ≡ false → j < 5 → j + 1 < 5
-not_four j e lt = let ne = eqb-false j 4 e in omega (arith, lt, ne)
+counts_one : (j k : ℕ) (c : NodesT Where) (o : OpT Where) (y : Copying) → puts_before (Do o c) ≡ one_more (puts_before c) → takes_moved y o ≡ false → Counts (j + 1) k c y → Counts j k (Do o c) y
+counts_one j k c o y e clear h = record { more = suc h.more; total = let t = h.total in omega (arith, t); puts = e ∙ ap one_more h.puts; clear = (clear, h.clear) }
 
-counts_one : (j k : ℕ) (c d : NodesT Where) (y : Copying) → puts_before d ≡ one_more (puts_before c) → Counts (j + 1) k c y → Counts j k d y
-counts_one j k c d y e h = record { more = suc h.more; total = let t = h.total in omega (arith, t); few = h.few; puts = e ∙ ap one_more h.puts }
+-- where a limit is not met, or that and another one
+goes_on : (b : Bool) (x : Option ℕ) (k : ℕ) → cond b None x ≡ Some k → (b ≡ false) × (x ≡ Some k)
+goes_on true x k e = absurd cc
+goes_on false x k e = (refl, e)
 
-some_k : (j k : ℕ) → Some j ≡ Some k → j ≡ k
-some_k j k e = cc
+neither : (a b : Bool) → a || b ≡ false → b ≡ false
+neither true b e = absurd cc
+neither false b e = e
 
-counts : (j k : ℕ) (c : NodesT Where) (y : Copying) → j < 5 → copy_after c ≡ Some y → puts_ahead j c ≡ Some k → Counts j k c y
+counts : (j k : ℕ) (c : NodesT Where) (y : Copying) → copy_after c ≡ Some y → puts_ahead y j c ≡ Some k → Counts j k c y
 unfolding copy_after puts_ahead puts_before
-counts j k (Do (ConstO (Reg r) n) c) y lt p e = go (j == 4) refl e (counts (j + 1) k c y)
-  where
-    go : (b : Bool) → (j == 4) ≡ b → cond b None (puts_ahead (j + 1) c) ≡ Some k → (j + 1 < 5 → copy_after c ≡ Some y → puts_ahead (j + 1) c ≡ Some k → Counts (j + 1) k c y) → Counts j k (Do (ConstO (Reg r) n) c) y
-    go true q e on = absurd cc
-    go false q e on = counts_one j k c (Do (ConstO (Reg r) n) c) y refl (on (not_four j q lt) p e)
-counts j k (Do (GlobalO (Reg r) n) c) y lt p e = go (j == 4) refl e (counts (j + 1) k c y)
-  where
-    go : (b : Bool) → (j == 4) ≡ b → cond b None (puts_ahead (j + 1) c) ≡ Some k → (j + 1 < 5 → copy_after c ≡ Some y → puts_ahead (j + 1) c ≡ Some k → Counts (j + 1) k c y) → Counts j k (Do (GlobalO (Reg r) n) c) y
-    go true q e on = absurd cc
-    go false q e on = counts_one j k c (Do (GlobalO (Reg r) n) c) y refl (on (not_four j q lt) p e)
-counts j k (Loop b c) y lt p e = let q = some_k j k e in record { more = 0; total = omega (arith, q); few = omega (arith, q, lt); puts = ap no_more p }
-counts j k _ y lt p e = absurd cc
+counts j k (Do (ConstO (Reg r) n) c) y p e = let g = goes_on (j == 8) _ k e in counts_one j k c (ConstO (Reg r) n) y refl refl (counts (j + 1) k c y p g.1)
+counts j k (Do (GlobalO (Reg r) n) c) y p e = let g = goes_on (j == 8) _ k e in counts_one j k c (GlobalO (Reg r) n) y refl refl (counts (j + 1) k c y p g.1)
+counts j k (Do (LocalO (Reg r) n) c) y p e = let g = goes_on (j == 8) _ k e in counts_one j k c (LocalO (Reg r) n) y refl refl (counts (j + 1) k c y p g.1)
+counts j k (Do (MoveO (Reg r) q) c) y p e = let g = goes_on ((j == 8) || reads_moved y q) _ k e in counts_one j k c (MoveO (Reg r) q) y refl (neither (j == 8) (reads_moved y q) g.0) (counts (j + 1) k c y p g.1)
+counts j k (Loop b c) y p e = let q = some_k j k e in record { more = 0; total = omega (arith, q); puts = ap no_more p; clear = tt }
+counts j k _ y p e = absurd cc
 
-lead_behind : (r : ℕ) (x : Option ℕ) (c d : NodesT Where) (k : ℕ) → puts_before d ≡ one_more (puts_before c) → ((q : ℕ) → last_put q d None ≡ last_put q c (cond (q == r) x None)) → leads r x c (copy_after c) ≡ Some k → Leads d k
-lead_behind r x c d k one last e = go (copy_after c) refl e
+lead_behind : (c : NodesT Where) (k : ℕ) (y : Copying) → leads c (copy_after c) ≡ Some (k, y) → Leads c k y
+lead_behind c k y e = go (copy_after c) refl e
   where
-    some : (y : Copying) (b : Bool) → copy_after c ≡ Some y → is_count (last_put y.count c (cond (y.count == r) x None)) && is_one (last_put y.one c (cond (y.one == r) x None)) ≡ b → cond b (puts_ahead 1 c) None ≡ Some k → Leads d k
-    some y true p t q =
-        let i = both (is_count (last_put y.count c (cond (y.count == r) x None))) (is_one (last_put y.one c (cond (y.one == r) x None))) t in
-        let h = counts 1 k c y (omega arith) p q in
+    some : (z : Copying) (j : ℕ) (b : Bool) → copy_after c ≡ Some z → puts_ahead z 0 c ≡ Some j → is_count (last_put z.count c None) && is_one (last_put z.one c None) ≡ b → cond b (one_pair j z) None ≡ Some (k, y) → Leads c k y
+    some z j true p q t w =
+        let d = pair_is j z k y w in
+        let h = counts 0 j c z p q in
         let total = h.total in
-        let same : suc h.more ≡ k = omega (arith, total) in
-        record { y = y; puts = one ∙ ap one_more h.puts ∙ ap (λ n. Some (n, y)) same; few = h.few; count = ap is_count (last y.count) ∙ i.0; one = ap is_one (last y.one) ∙ i.1 }
-    some y false p t q = absurd cc
+        let d0 = d.0 in
+        let more : h.more ≡ k = omega (arith, total, d0) in
+        let both_known = both _ _ t in
+        record {
+          puts = h.puts ∙ (λ i. Some (more i, d.1 i));
+          clear = subst (λ n. AllClear y c n) more (subst (λ x. AllClear x c h.more) d.1 h.clear);
+          count = ap (λ x. is_count (last_put x.count c None)) (sym d.1) ∙ both_known.0;
+          one = ap (λ x. is_one (last_put x.one c None)) (sym d.1) ∙ both_known.1;
+        }
+    some z j false p q t w = absurd cc
 
-    go : (z : Option Copying) → copy_after c ≡ z → leads r x c z ≡ Some k → Leads d k
+    ahead : (z : Copying) → copy_after c ≡ Some z → (x : Option ℕ) → puts_ahead z 0 c ≡ x → leads_to z c x ≡ Some (k, y) → Leads c k y
+    ahead z p None q w = absurd cc
+    ahead z p (Some j) q w = some z j _ p q refl w
+
+    go : (z : Option Copying) → copy_after c ≡ z → leads c z ≡ Some (k, y) → Leads c k y
     go None p q = absurd cc
-    go (Some y) p q = some y (is_count (last_put y.count c (cond (y.count == r) x None)) && is_one (last_put y.one c (cond (y.one == r) x None))) p refl q
+    go (Some z) p q = ahead z p (puts_ahead z 0 c) refl q
 
-pub lead_is : (c : NodesT Where) (k : ℕ) → lead c ≡ Some k → Leads c k
-unfolding lead puts_before last_put
-lead_is (Do (ConstO (Reg r) n) c) k e = lead_behind r (Some n) c (Do (ConstO (Reg r) n) c) k refl (λ q. refl) e
-lead_is (Do (GlobalO (Reg r) n) c) k e = lead_behind r None c (Do (GlobalO (Reg r) n) c) k refl (λ q. refl) e
-lead_is _ k e = absurd cc
+pub lead_is : (c : NodesT Where) (k : ℕ) (y : Copying) → lead c ≡ Some (k, y) → Leads c k y
+unfolding lead copy_after
+lead_is (Do (ConstO (Reg r) n) c) k y e = lead_behind (Do (ConstO (Reg r) n) c) k y e
+lead_is (Do (GlobalO (Reg r) n) c) k y e = lead_behind (Do (GlobalO (Reg r) n) c) k y e
+lead_is (Do (LocalO (Reg r) n) c) k y e = lead_behind (Do (LocalO (Reg r) n) c) k y e
+lead_is (Do (MoveO (Reg r) p) c) k y e = lead_behind (Do (MoveO (Reg r) p) c) k y e
+lead_is _ k y e = absurd cc

@@ -11,6 +11,7 @@ pub mod First
 pub mod Alongside
 pub mod Spared
 pub mod Leads
+pub mod Led
 pub mod Leading
 pub mod BlockMove
 pub mod Copied
@@ -38,6 +39,7 @@ pub mod Agreeing
 pub mod Agrees
 pub mod Ports
 pub mod Programs
+pub mod Putting
 pub mod Literals
 pub mod Spotted
 pub mod Tables

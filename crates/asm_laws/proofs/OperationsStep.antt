@@ -471,7 +471,7 @@ module _ (C : Console) (address : List ℕ → ℕ) (W : Whole) (F : Frame) (a :
   local_is : (s : State) (k : ℕ) → get_or F.locals k 0 < F.size → Held C a s → add (register_of s 15) (local_word F k) ≡ local_address F k a
   local_is s k good h = omega (arith, room.low, room.high, room.top, h.top)
 
-  local_effect : (s : State) (m k next : ℕ) → get_or F.locals k 0 < F.size → Held C a s → act (with (instr.Lea m 15 (Some (Left (local_word F k))))) next s ≡ EndsIn stepped.Went (took C next m (local_address F k a) s)
+  pub local_effect : (s : State) (m k next : ℕ) → get_or F.locals k 0 < F.size → Held C a s → act (with (instr.Lea m 15 (Some (Left (local_word F k))))) next s ≡ EndsIn stepped.Went (took C next m (local_address F k a) s)
   unfolding act
   local_effect s m k next good h = ap (λ v. EndsIn stepped.Went (took C next m v s)) (local_is s k good h)
 

@@ -36,7 +36,7 @@ use Rattle.mid_code.specs.declared.placed.Where.TheVariants.{Reg, Slot}
 use Rattle.mid_code.specs.Code.{NodesT, Stop, Do, Call, Choose, Block, Loop, Leave, Again, Return, OpT, ConstO, NullO, MoveO, OneO, TwoO, GlobalO, LocalO, LiteralO, CardO, StepO, ApartO, PtrTestO, LoadO, StoreO, FreshO, EndO, InO, OutO, WaitO, HaltO}
 use Rattle.mid_code.specs.Meaning.{Did, On, Ends, node_weight}
 use Rattle.mid_code.specs.States.{State, spent, op_weight, word_tested, registers_and_slots, acted}
-use Rattle.asm_laws.specs.Operations.{Frame, fetch, hand, word_put, summed, first_place, unturned, copied, copied_address, with_copy, with_sum, with_word, addend, using_it, is_spared, with_known, with_more, in_one, before_it, one_or_more, more_of, op_items, puts_items, led_items, led_more}
+use Rattle.asm_laws.specs.Operations.{Frame, fetch, hand, word_put, summed, first_place, unturned, copied, copied_address, with_copy, with_sum, with_word, addend, using_it, is_spared, with_known, with_more, in_one, before_it, one_or_more, more_of, op_items}
 use Rattle.asm_laws.specs.declared.used.Used.{Used}
 use Rattle.asm_laws.specs.declared.used.Used.TheVariants.{Computed, Loaded, Indexed, Offset, Element, Stored, Sent}
 use Rattle.asm_laws.specs.Spare.{beside, operand, in_slots, at_address, at_sum, index, index_behind, indexed, offset_load, offset_sum, offset_step, offset_behind, offset, adds, element_behind, element, or_else, used_by, puts, Stays, Sparing}
@@ -49,10 +49,7 @@ use Rattle.asm_laws.specs.Tests.{Tests}
 use Rattle.asm_laws.specs.Addresses.{Addr, Does, Console, readable, writable, word_of, put, having, Room, Good, GoodOp, computed, loaded, saved, Held, Follows, does}
 use Rattle.asm_laws.specs.Addresses as words
 use Rattle.asm_laws.proofs.Stepping.{same_or_not, written_same, written_other, line_effect, line_turn, took, scratch, moved, reg_same, fetches_so}
-use Rattle.asm_laws.specs.declared.copying.Copying.{Copying}
-use Rattle.asm_laws.specs.Copies.{lead}
-use Rattle.asm_laws.proofs.Leads.{puts_before, puts_elim, lead_is}
-use Rattle.asm_laws.proofs.Control.{earlier_did, here, did_on}
+use Rattle.asm_laws.proofs.Control.{earlier_did}
 use Rattle.asm_laws.proofs.Hands.{with_reg, hand_fits, brings_at}
 use Rattle.asm_laws.proofs.OperationsStep.{op_follows, sum_turned, TurnsTo, turns}
 use Rattle.asm_laws.proofs.Lists.{below_or_not}
@@ -184,7 +181,7 @@ module _ (S : Setting) (fits : Fits S) where
   -- an operation whose words come first, and then those of the operations behind it, where the machine has not gone on yet
   passes : (κ : Ctx) (s : State Where) (m : machine.State) (a b : Addr) (w p : ℕ) (d : Did (State Where)) (go : State Where → Did (State Where)) → DoesAs S κ (spent w s) a d (words.Goes [] s.world.store.answers b) →
       ((t : State Where) → Holds S κ t b → DidSim (holder S) κ m (begin (holder S) t) p (go t)) → DidSim (holder S) κ m (begin (holder S) s) p (did_then d go)
-  passes κ s m a b w p (On t) go g f = earlier_did (lang S) (holder S) κ m (begin (holder S) s) (begin (holder S) t) p (go t) (sym g.answers) (g.events ∙ append-nil s.world.events) (let n = g.work in omega (arith, n)) (f t g.holds)
+  passes κ s m a b w p (On t) go g f = earlier_did (lang S) (holder S) m (begin (holder S) s) (begin (holder S) t) p (Mach S κ) (go t) (sym g.answers) (g.events ∙ append-nil s.world.events) (let n = g.work in omega (arith, n)) (f t g.holds)
   passes κ s m a b w p (Ends Stray t) go g f = λ n. record { steps = 0; made = []; to = m; left = s.world.store.answers; by = (reaches_here m s.world.store.answers).runs; nested = λ ls. nested_none ls m s.world.store.answers; events = g.0 ∙ sym (append-nil s.world.events); cost = omega (arith, g.1); many = omega arith }
   passes κ s m a b w p (Ends Halted t) go g f = absurd g
   passes κ s m a b w p (Ends (Fault k) t) go g f = absurd g
@@ -814,7 +811,7 @@ module _ (S : Setting) (fits : Fits S) where
         go true is = let d = spared_is S κ.fn S.whole (Of κ) o (Do u c) sp is in known_done o u c d.0 d.1 fit
         go false is = λ ff st. word_done o u c fit (old_stays S κ.fn S.whole (Of κ) o u c sp is (fit, ff)) ff st
 
-    done : (o : OpT Where) (c : NodesT Where) → Fitting S κ.fn o → Sparing (Number κ) (Do o c) zero → Done o c (in_one S.whole (Of κ) o c)
+    pub done : (o : OpT Where) (c : NodesT Where) → Fitting S κ.fn o → Sparing (Number κ) (Do o c) zero → Done o c (in_one S.whole (Of κ) o c)
     unfolding in_one
     done o (Do u c) fit sp = more_done o u c fit sp
     done o c fit sp = one_done o c fit (uses_stay S κ.fn (Number κ) o c sp fit)
@@ -823,27 +820,6 @@ module _ (S : Setting) (fits : Fits S) where
   op_done : (κ : Ctx) (pc p : ℕ) (s : State Where) (m : machine.State) → m.counter ≡ pc → (h : Mach S κ s m) → (o : OpT Where) → Fitting S κ.fn o → AllOf (Stays (Number κ)) (uses o) → Stand C.words S.address pc (op_items S.whole (Of κ) o) p → DidSim (holder S) κ m (begin (holder S) s) p ((lang S).act o s)
   op_done κ pc p s m e h o fit stays st =
       last_sim κ p o s m h.words h.registers h.like (record { place = h.place; at = h.at }) fit stays (op_follows C S.address S.whole (Of κ) (having h.registers h.words) (roomy κ pc p s m e h) o m s.world.store.answers pc p (good_op κ o fit) h.held e st)
-
-  -- the operations before a loop that copies words
-  abbrev PutsDone : NodesT Where → ℕ → Copying → Type 0
-  PutsDone c k y = (κ : Ctx) (pc p : ℕ) (s : State Where) (m : machine.State) → FrontFits S κ.fn c (suc k) → Stand S.console.words S.address pc (puts_items S.whole c k) p → m.counter ≡ pc → Mach S κ s m → DidSim (holder S) κ m (begin (holder S) s) p (front_acts (lang S) c (suc k) s)
-
-  puts_done : (c : NodesT Where) (k : ℕ) (y : Copying) → puts_before c ≡ Some (k, y) → PutsDone c k y
-  unfolding op_items
-  puts_done c k y q = puts_elim PutsDone (λ b c y q κ pc p s m ff st e h. here (lang S) (holder S) κ m s p (e ∙ st) h)
-      (λ r n c k y q done κ pc p s m ff st e h.
-      did_on (lang S) (holder S) κ m (begin (holder S) s) st.0 p ((lang S).act (ConstO (Reg r) n) s) (front_acts (lang S) c (suc k)) (op_done κ pc st.0 s m e h (ConstO (Reg r) n) ff.0 tt (st.0, st.1, refl)) (λ t m1 a e1 h1. done κ st.0 p t m1 ff.1 st.2 e1 h1))
-      (λ r n c k y q done κ pc p s m ff st e h.
-      did_on (lang S) (holder S) κ m (begin (holder S) s) st.0 p ((lang S).act (GlobalO (Reg r) n) s) (front_acts (lang S) c (suc k)) (op_done κ pc st.0 s m e h (GlobalO (Reg r) n) ff.0 tt (st.0, st.1, refl)) (λ t m1 a e1 h1. done κ st.0 p t m1 ff.1 st.2 e1 h1)) c k y q
-
-  led_sim : (κ : Ctx) (pc p : ℕ) (o : OpT Where) (c : NodesT Where) (s : State Where) (m : machine.State) → m.counter ≡ pc → Mach S κ s m → Fitting S κ.fn o → Sparing (Number κ) (Do o c) zero → (x : Option ℕ) → lead (Do o c) ≡ x → FrontFits S κ.fn c (led_more S.whole (Of κ) o c x) → Stand C.words S.address pc (led_items S.whole (Of κ) o c x) p →
-      DidSim (holder S) κ m (begin (holder S) s) p (did_then ((lang S).act o s) (front_acts (lang S) c (led_more S.whole (Of κ) o c x)))
-  led_sim κ pc p o c s m e h fit sp None q ff st = done κ pc p s m e h o c fit sp ff st
-  led_sim κ pc p o c s m e h fit sp (Some k) q ff st = let l = lead_is (Do o c) k q in puts_done (Do o c) k l.y l.puts κ pc p s m (fit, ff) st e h
-
-  pub op_sim : (κ : Ctx) (pc p more : ℕ) (o : OpT Where) (c : NodesT Where) (s : State Where) (m : machine.State) → (shapes S).op κ.fn pc o c more p → m.counter ≡ pc → Mach S κ s m → DidSim (holder S) κ m (begin (holder S) s) p (did_then ((lang S).act o s) (front_acts (lang S) c more))
-  op_sim κ pc p more o c s m st e h =
-      subst (λ n. DidSim (holder S) κ m (begin (holder S) s) p (did_then ((lang S).act o s) (front_acts (lang S) c n))) (sym st.3) (led_sim κ pc p o c s m e h st.0 st.4 (lead (Do o c)) refl (subst (λ n. FrontFits S κ.fn c n) st.3 st.1) st.2)
 
   -- ---- jumps, tests, results
 

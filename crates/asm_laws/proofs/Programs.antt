@@ -95,7 +95,7 @@ module _ (S : Setting) (boot rest : ℕ) (card : Option (List ℕ)) (ok : IsCard
   at_of : (f : ℕ) → Sound S f → Calls f → (ls : List Bounds) (bs : List Bool) (c : NodesT Where) (done pc e : ℕ) → AreNodes S.code (length (S.locals f)) bs c → Names (Named S f) c → Sparing (Number f) c done → Past (items_at S) f ls pc c done e → Past (shapes S) f ls pc c done e
   at_of f so cs ls bs Stop done pc e n m sp at = at
   at_of f so cs ls bs (Do o c) zero pc e n m sp (inl h) = inl (made_there f so bs o c pc n m sp h)
-  at_of f so cs ls bs (Do o c) zero pc e n m sp (inr at) = inr (at.0, at.1, (fitting f so o c n.0 m.0, front_fits f so bs c at.0 n.1 m.1, at.2.0, at.2.1, sp), at_of f so cs ls bs c at.0 at.1 e n.1 m.1 (onward f o c at.0 at.2.1 sp) at.3)
+  at_of f so cs ls bs (Do o c) zero pc e n m sp (inr at) = inr (at.0, at.1, (fitting f so o c n.0 m.0, front_fits f so bs c at.0 n.1 m.1, at.2.0, at.2.1, sp, m), at_of f so cs ls bs c at.0 at.1 e n.1 m.1 (onward f o c at.0 at.2.1 sp) at.3)
   at_of f so cs ls bs (Do o c) (suc k) pc e n m sp at = at_of f so cs ls bs c k pc e n.1 m.1 sp at
   at_of f so cs ls bs (Call t g args c) done pc e n m sp at =
       let i = mapped_from (λ h. length h.params) (slice_get S.code.functions g) (length args) n.0 in
@@ -113,9 +113,9 @@ module _ (S : Setting) (boot rest : ℕ) (card : Option (List ℕ)) (ok : IsCard
   at_of f so cs ls bs (Loop b c) done pc e n m sp (p, inl h, rest) =
       let d = halves (Number f) (spares b zero) (spares c zero) sp in
       (p, inl (h.0, h.1, h.2, m.0, d.0), at_of f so cs ls bs c zero p e n.1 m.1 d.1 rest)
-  at_of f so cs ls bs (Loop b c) done pc e n m sp (p, inr (q, passes, body), rest) =
+  at_of f so cs ls bs (Loop b c) done pc e n m sp (p, inr (plain, q, passes, body), rest) =
       let d = halves (Number f) (spares b zero) (spares c zero) sp in
-      (p, inr (q, passes, at_of f so cs (record { begins = q; ends = p; owes = true } ∷ ls) (true ∷ bs) b zero q p n.0 m.0 d.0 body), at_of f so cs ls bs c zero p e n.1 m.1 d.1 rest)
+      (p, inr (plain, q, passes, at_of f so cs (record { begins = q; ends = p; owes = true } ∷ ls) (true ∷ bs) b zero q p n.0 m.0 d.0 body), at_of f so cs ls bs c zero p e n.1 m.1 d.1 rest)
   at_of f so cs ls bs (Leave k c) done pc e n m sp at = (at.0, (at.1.0, at_of f so cs ls bs c zero at.1.0 e n.1 m sp at.1.1))
   at_of f so cs ls bs (Again k c) done pc e n m sp at = (at.0, (at.1.0, at_of f so cs ls bs c zero at.1.0 e n.1 m sp at.1.1))
   at_of f so cs ls bs (Return w c) done pc e n m sp at =
@@ -126,7 +126,7 @@ module _ (S : Setting) (boot rest : ℕ) (card : Option (List ℕ)) (ok : IsCard
   at_quiet : (f : ℕ) → Sound S f → (ls : List Bounds) (bs : List Bool) (c : NodesT Where) (done pc e : ℕ) → AreNodes S.code (length (S.locals f)) bs c → Names (Named S f) c → CallsNone c → Sparing (Number f) c done → Past (items_at S) f ls pc c done e → Past (shapes S) f ls pc c done e
   at_quiet f so ls bs Stop done pc e n m q sp at = at
   at_quiet f so ls bs (Do o c) zero pc e n m q sp (inl h) = inl (made_there f so bs o c pc n m sp h)
-  at_quiet f so ls bs (Do o c) zero pc e n m q sp (inr at) = inr (at.0, at.1, (fitting f so o c n.0 m.0, front_fits f so bs c at.0 n.1 m.1, at.2.0, at.2.1, sp), at_quiet f so ls bs c at.0 at.1 e n.1 m.1 q (onward f o c at.0 at.2.1 sp) at.3)
+  at_quiet f so ls bs (Do o c) zero pc e n m q sp (inr at) = inr (at.0, at.1, (fitting f so o c n.0 m.0, front_fits f so bs c at.0 n.1 m.1, at.2.0, at.2.1, sp, m), at_quiet f so ls bs c at.0 at.1 e n.1 m.1 q (onward f o c at.0 at.2.1 sp) at.3)
   at_quiet f so ls bs (Do o c) (suc k) pc e n m q sp at = at_quiet f so ls bs c k pc e n.1 m.1 q sp at
   at_quiet f so ls bs (Call t g args c) done pc e n m q sp at = absurd q
   at_quiet f so ls bs (Choose w x y c) done pc e n m q sp at =
@@ -140,9 +140,9 @@ module _ (S : Setting) (boot rest : ℕ) (card : Option (List ℕ)) (ok : IsCard
   at_quiet f so ls bs (Loop b c) done pc e n m q sp (p, inl h, rest) =
       let d = halves (Number f) (spares b zero) (spares c zero) sp in
       (p, inl (h.0, h.1, h.2, m.0, d.0), at_quiet f so ls bs c zero p e n.1 m.1 q.1 d.1 rest)
-  at_quiet f so ls bs (Loop b c) done pc e n m q sp (p, inr (r, passes, body), rest) =
+  at_quiet f so ls bs (Loop b c) done pc e n m q sp (p, inr (plain, r, passes, body), rest) =
       let d = halves (Number f) (spares b zero) (spares c zero) sp in
-      (p, inr (r, passes, at_quiet f so (record { begins = r; ends = p; owes = true } ∷ ls) (true ∷ bs) b zero r p n.0 m.0 q.0 d.0 body), at_quiet f so ls bs c zero p e n.1 m.1 q.1 d.1 rest)
+      (p, inr (plain, r, passes, at_quiet f so (record { begins = r; ends = p; owes = true } ∷ ls) (true ∷ bs) b zero r p n.0 m.0 q.0 d.0 body), at_quiet f so ls bs c zero p e n.1 m.1 q.1 d.1 rest)
   at_quiet f so ls bs (Leave k c) done pc e n m q sp at = (at.0, (at.1.0, at_quiet f so ls bs c zero at.1.0 e n.1 m q sp at.1.1))
   at_quiet f so ls bs (Again k c) done pc e n m q sp at = (at.0, (at.1.0, at_quiet f so ls bs c zero at.1.0 e n.1 m q sp at.1.1))
   at_quiet f so ls bs (Return w c) done pc e n m q sp at =

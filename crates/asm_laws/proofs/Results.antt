@@ -8,6 +8,7 @@ use Rattle.mid_code.specs.Code.{NodesT, Do, Return, OpT, TwoO}
 use Rattle.asm_laws.specs.declared.made.Made.{Made}
 use Rattle.asm_laws.specs.declared.made.Made.TheVariants.{Both, Known}
 use Rattle.asm_laws.specs.Spare.{operand}
+use Rattle.asm_laws.specs.declared.copying.Copying.{Copying}
 use Rattle.asm_laws.specs.Copies.{lead}
 use Rattle.asm_laws.specs.Operations.{Frame, Whole, word_put, is_spared, in_one, more_of, led_more, group_more, given_first, made_both, made_known, made_with, first_made, made_of}
 use Rattle.asm_laws.specs.inner.Emitted.{is_tested}
@@ -151,6 +152,6 @@ ops_none (suc k) _ h = absurd h
 pub group_none : (W : Whole) (F : Frame) (o : OpT Where) (c : NodesT Where) → NoResult (group_more W F o c) c
 group_none W F o c = go (lead (Do o c)) refl
   where
-    go : (x : Option ℕ) → lead (Do o c) ≡ x → NoResult (led_more W F o c x) c
+    go : (x : Option (ℕ × Copying)) → lead (Do o c) ≡ x → NoResult (led_more W F o c x) c
     go None e = ops_none (more_of (in_one W F o c)) c (one_is W F o c)
-    go (Some k) e = let l = lead_is (Do o c) k e in puts_elim (λ d j y. NoResult (suc j) d) (λ b d y q. tt) (λ r n d j y q h. h) (λ r n d j y q h. h) (Do o c) k l.y l.puts
+    go (Some (k, y)) e = let l = lead_is (Do o c) k y e in puts_elim (λ d j y. NoResult (suc j) d) (λ b d y q. tt) (λ o r d j y p q h. h) (Do o c) k y l.puts

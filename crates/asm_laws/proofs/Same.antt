@@ -10,12 +10,13 @@ use Rattle.mid_code.specs.declared.placed.Where.TheVariants.{Reg}
 use Rattle.mid_code.specs.Code.{OpT, ConstO, NullO, MoveO, OneO, TwoO, GlobalO, LocalO, LiteralO, CardO, StepO, ApartO, PtrTestO, LoadO, StoreO, FreshO, EndO, InO, OutO, WaitO, HaltO, NodesT, Stop, Do, Call, Choose, Block, Loop, Leave, Again, Return, FunctionT, CodeT}
 use Rattle.mid_code.specs.Invariants.{AreNodes, AllOf}
 use Rattle.asm_laws.specs.Names.{function_label}
-use Rattle.asm_laws.specs.Operations.{Frame, Whole, hand, brings, op_items, word_put, with_more, in_one, one_or_more, more_of, call_items, args_items, keeps_some, start_frame, literals_items, put_item, puts_items, led_items, led_more, group_items, group_more, giving_left, given_first, made_both, made_with, first_made, made_of, made_or, made_more, next_items, next_more}
+use Rattle.asm_laws.specs.Operations.{Frame, Whole, hand, brings, op_items, word_put, with_more, in_one, one_or_more, more_of, call_items, args_items, keeps_some, start_frame, literals_items, put_items, puts_items, led_items, led_more, group_items, group_more, giving_left, given_first, made_both, made_with, first_made, made_of, made_or, made_more, next_items, next_more}
 use Rattle.asm_laws.specs.declared.behind.Behind.{Behind}
 use Rattle.asm_laws.specs.declared.behind.Behind.TheVariants.{Other, End, Turn}
 use Rattle.asm_laws.specs.inner.Emitted.{labels, enclosing, jump, choice, alone, left_to, ends, is_stop, enclosed, left_by, items_past, code_items, function_items, functions_items, call_item, exit_items, closing_items, program_items, inside, is_end, again, looped, is_tested, part_items, test_items, jump_when}
 use Rattle.asm_laws.specs.Framing.{frame_made}
-use Rattle.asm_laws.specs.Copies.{lead, copy_at, copy_or}
+use Rattle.asm_laws.specs.declared.copying.Copying.{Copying}
+use Rattle.asm_laws.specs.Copies.{lead, move_items, copy_at, copy_or}
 use Rattle.asm_laws.proofs.Known.{function_there}
 
 -- with other frames
@@ -59,31 +60,38 @@ one_same : (W : Whole) (fr : ℕ → Frame) (F : Frame) (o : OpT Where) (r : Opt
 one_same W fr F o None = op_same W fr F o
 one_same W fr F o (Some (more, first, i)) = refl
 
-puts_same : (W : Whole) (fr : ℕ → Frame) (c : NodesT Where) (k : ℕ) → puts_items (framed W fr) c k ≡ puts_items W c k
-puts_same W fr (Do o c) (suc k) = let p = put_same W fr o in let q = puts_same W fr c k in λ i. put_item (p i) ++ q i
-puts_same W fr (Do o c) zero = refl
-puts_same W fr Stop k = refl
-puts_same W fr (Call t g args c) k = refl
-puts_same W fr (Choose p a b c) k = refl
-puts_same W fr (Block b c) k = refl
-puts_same W fr (Loop b c) k = refl
-puts_same W fr (Leave j c) k = refl
-puts_same W fr (Again j c) k = refl
-puts_same W fr (Return p c) k = refl
+put_items_same : (W : Whole) (fr : ℕ → Frame) (F : Frame) (y : Copying) (o : OpT Where) → put_items (framed W fr) F y o ≡ put_items W F y o
+put_items_same W fr F y (ConstO (Reg r) n) = refl
+put_items_same W fr F y (GlobalO (Reg r) k) = refl
+put_items_same W fr F y (LocalO (Reg r) k) = refl
+put_items_same W fr F y (MoveO (Reg r) p) = refl
+put_items_same W fr F y _ = refl
+
+puts_same : (W : Whole) (fr : ℕ → Frame) (F : Frame) (y : Copying) (c : NodesT Where) (k : ℕ) → puts_items (framed W fr) F y c k ≡ puts_items W F y c k
+puts_same W fr F y (Do o c) (suc k) = let p = put_items_same W fr F y o in let q = puts_same W fr F y c k in λ i. p i ++ q i
+puts_same W fr F y (Do o c) zero = refl
+puts_same W fr F y Stop k = refl
+puts_same W fr F y (Call t g args c) k = refl
+puts_same W fr F y (Choose p a b c) k = refl
+puts_same W fr F y (Block b c) k = refl
+puts_same W fr F y (Loop b c) k = refl
+puts_same W fr F y (Leave j c) k = refl
+puts_same W fr F y (Again j c) k = refl
+puts_same W fr F y (Return p c) k = refl
 
 group_same : (W : Whole) (fr : ℕ → Frame) (F : Frame) (o : OpT Where) (c : NodesT Where) → group_items (framed W fr) F o c ≡ group_items W F o c
 group_same W fr F o c = go (lead (Do o c))
   where
-    go : (x : Option ℕ) → led_items (framed W fr) F o c x ≡ led_items W F o c x
+    go : (x : Option (ℕ × Copying)) → led_items (framed W fr) F o c x ≡ led_items W F o c x
     go None = ap (one_or_more (framed W fr) F o) (in_one_same W fr F o c) ∙ one_same W fr F o (in_one W F o c)
-    go (Some k) = puts_same W fr (Do o c) k
+    go (Some (k, y)) = ap (λ xs. xs ++ move_items y (Do o c)) (puts_same W fr F y (Do o c) k)
 
 more_same : (W : Whole) (fr : ℕ → Frame) (F : Frame) (o : OpT Where) (c : NodesT Where) → group_more (framed W fr) F o c ≡ group_more W F o c
 more_same W fr F o c = go (lead (Do o c))
   where
-    go : (x : Option ℕ) → led_more (framed W fr) F o c x ≡ led_more W F o c x
+    go : (x : Option (ℕ × Copying)) → led_more (framed W fr) F o c x ≡ led_more W F o c x
     go None = ap more_of (in_one_same W fr F o c)
-    go (Some k) = refl
+    go (Some (k, y)) = refl
 
 made_same : (W : Whole) (fr : ℕ → Frame) (F : Frame) (o : OpT Where) (c : NodesT Where) → made_of (framed W fr) F o c ≡ made_of W F o c
 unfolding made_of

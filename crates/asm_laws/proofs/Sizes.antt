@@ -27,7 +27,7 @@ use Rattle.asm_laws.specs.Names.{literal_label, function_label}
 use Rattle.kit_base.specs.Word.{add}
 use Rattle.asm_laws.specs.Operations as operations
 use Rattle.asm_laws.specs.Moves.{Move, in_order}
-use Rattle.asm_laws.specs.Operations.{Frame, Whole, arg_word, slot_word, local_word, fetches, keeps, keeps_some, hand, brings, takes, aim, lays, moves, changes, is_direct, in_place, apart, is_turned, turned_or_apart, computes, slot_arg, slot_args, moved_items, args_items, call_items, op_items, in_one, one_or_more, more_of, giving, start_frame, literal_items, literals_items, puts_items, put_item, group_items, giving_left, next_items, next_more, word_put}
+use Rattle.asm_laws.specs.Operations.{Frame, Whole, arg_word, slot_word, local_word, fetches, keeps, keeps_some, hand, brings, takes, aim, lays, moves, changes, is_direct, in_place, apart, is_turned, turned_or_apart, computes, slot_arg, slot_args, moved_items, args_items, call_items, op_items, in_one, one_or_more, more_of, giving, start_frame, literal_items, literals_items, put_items, puts_items, group_items, giving_left, next_items, next_more, word_put, led_items, led_more, group_more, made_of, made_or, made_more}
 use Rattle.asm_laws.specs.Pieces.{register, is_in, turned}
 use Rattle.asm_laws.specs.Framing.{frame_made, frame_gone}
 use Rattle.asm_laws.specs.declared.behind.Behind.{Behind}
@@ -35,9 +35,10 @@ use Rattle.asm_laws.specs.declared.behind.Behind.TheVariants.{Other, End, Turn}
 use Rattle.asm_laws.specs.inner.Emitted.{labels, enclosing, jump, jump_unless, mark, choice, one_way, alone, left_to, ends, jump_when, is_stop, enclosed, leaving, left_by, items_past, code_items, entry_items, exit_items, function_items, functions_items, functions_labels, call_item, closing_items, start_items, program_items, labels_of, inside, is_end, is_turn, again, rotated, looped, is_tested, part_items, test_items}
 use Rattle.asm_laws.proofs.Ordering.{in_order_few}
 use Rattle.asm_laws.specs.declared.copying.Copying.{Copying}
-use Rattle.asm_laws.specs.Copies.{copy_of, copy_at, items_from, copy_or}
-use Rattle.asm_laws.proofs.Leads.{copy_turn, fill_turn, copy_is, lead_is, puts_elim}
-use Rattle.asm_laws.proofs.InOne.{TakesWord, one_or_more_is, group_is, next_is}
+use Rattle.asm_laws.specs.declared.made.Made.{Made}
+use Rattle.asm_laws.specs.Copies.{lead, copy_of, copy_at, put_into, goes_to, is_put, source, source_put, move_item, move_items, block_of, back_items, copy_items, copy_or}
+use Rattle.asm_laws.proofs.Leads.{copy_turn, fill_turn, copy_is, lead_is, puts_before, puts_elim, some_put, put_elim}
+use Rattle.asm_laws.proofs.InOne.{TakesWord, one_or_more_is, made_or_is}
 use Rattle.asm_laws.proofs.Walked.{total_append, total_one, total_none, total_more}
 
 abbrev size : List AsmItem → ℕ
@@ -191,80 +192,91 @@ one_size W F o c =
       λ r q i lr lq h. (let t = taking_size (op_weight o) i h in let z = two_items (item.Op (instr.Two IADD r (src.Reg q))) (item.Op i) 2 2 (omega arith) t.1 in omega (arith, z, t.0)),
     )
 
--- so many words are put into registers
-puts_size : (W : Whole) (c : NodesT Where) (k : ℕ) → size (puts_items W c k) ≤ k + k
-puts_size W (Do o c) (suc k) =
-    let t = total_append (put_item (word_put W o)) (puts_items W c k) in
-    omega (arith, t, put (word_put W o), puts_size W c k)
+whole : (k n w : ℕ) → k + n ≤ w → k ≤ w
+whole k n w le = omega (arith, le)
+
+-- the weight of operations that come first, so many of them
+abbrev front_weight : NodesT Where → ℕ → ℕ
+front_weight (Do o c) (suc k) = op_weight o + front_weight c k
+front_weight _ k = 0
+
+-- Words that are put into registers take a few words each, and at most three that are not put a word each.
+put_size : (W : Whole) (F : Frame) (y : Copying) (o : OpT Where) (r : ℕ) → put_into o ≡ Some r → (size (put_items W F y o) ≤ 4) × (op_weight o ≡ 8)
+put_size W F y = put_elim (λ o r. (size (put_items W F y o) ≤ 4) × (op_weight o ≡ 8))
+    (λ r n. (let z = one_item (item.Op (instr.Mov (RegImm (register (goes_to y r)) (Left n)))) 2 (omega arith) in omega (arith, z), refl))
+    (λ r k. (let z = one_item (item.Op (instr.Mov (RegImm (register (goes_to y r)) (Left (get_or W.globals k 0))))) 2 (omega arith) in omega (arith, z), refl))
+    (λ r k. (let z = one_item (item.Op (instr.Lea (register (goes_to y r)) 15 (Some (Left (local_word F k))))) 2 (omega arith) in omega (arith, z), refl))
+    (λ r p. (moves_size F (Reg (goes_to y r)) p, refl))
+
+puts_size : (W : Whole) (F : Frame) (z : Copying) (d : NodesT Where) (k : ℕ) (y : Copying) → puts_before d ≡ Some (k, y) → size (puts_items W F z d k) + 4 * k ≤ front_weight d (suc k)
+puts_size W F z = puts_elim (λ d k y. size (puts_items W F z d k) + 4 * k ≤ front_weight d (suc k)) (λ b c y q. omega (arith, total_none))
+    (λ o r c k y p q h. let s = put_size W F z o r p in let t = total_append (put_items W F z o) (puts_items W F z c k) in let s0 = s.0 in let s1 = s.1 in omega (arith, s0, s1, t, h))
+
+move_size : (y : Copying) (c : NodesT Where) → size (move_items y c) ≤ 3
+move_size y c = go (is_put y.to false c) (source_put y.from false c) (is_put y.count false c)
   where
-    put : (x : Option (ℕ × ℕ)) → size (put_item x) ≤ 2
-    put None = omega (arith, total_none)
-    put (Some (r, w)) = one_item (item.Op (instr.Mov (RegImm r (Left w)))) 2 (omega arith)
-puts_size W (Do o c) zero = omega (arith, total_none)
-puts_size W Stop k = omega (arith, total_none)
-puts_size W (Call t g args c) k = omega (arith, total_none)
-puts_size W (Choose p a b c) k = omega (arith, total_none)
-puts_size W (Block b c) k = omega (arith, total_none)
-puts_size W (Loop b c) k = omega (arith, total_none)
-puts_size W (Leave j c) k = omega (arith, total_none)
-puts_size W (Again j c) k = omega (arith, total_none)
-puts_size W (Return p c) k = omega (arith, total_none)
+    one : (b : Bool) (t r : ℕ) → size (move_item b t r) ≤ 1
+    one true t r = omega (arith, total_none)
+    one false t r = one_item (item.Op (instr.Mov (RegReg t (register r)))) 1 (omega arith)
 
-abbrev Heavy : NodesT Where → Type 0
-Heavy (Do o c) = op_weight o ≡ 8
-Heavy _ = Unit {0}
+    go : (a b d : Bool) → size (move_item a 13 y.to ++ (move_item b 12 (source y.from y) ++ move_item d 11 y.count)) ≤ 3
+    go a b d =
+        let s = total_append (move_item a 13 y.to) (move_item b 12 (source y.from y) ++ move_item d 11 y.count) in
+        let t = total_append (move_item b 12 (source y.from y)) (move_item d 11 y.count) in
+        omega (arith, s, t, one a 13 y.to, one b 12 (source y.from y), one d 11 y.count)
 
-group_size : (W : Whole) (F : Frame) (o : OpT Where) (c : NodesT Where) → size (group_items W F o c) ≤ op_weight o
-group_size W F o c = group_is W F (λ xs. size xs ≤ op_weight o) o c (one_size W F o c) (λ k e.
-    let h = lead_is (Do o c) k e in
-    let w : op_weight o ≡ 8 = puts_elim (λ x j y. Heavy x) (λ b d y q. tt) (λ r n d j y q g. refl) (λ r n d j y q g. refl) (Do o c) k h.y h.puts in
-    let s = puts_size W (Do o c) k in
-    let few = h.few in
-    omega (arith, w, s, few))
+group_size : (W : Whole) (F : Frame) (o : OpT Where) (c : NodesT Where) → size (group_items W F o c) ≤ op_weight o + front_weight c (group_more W F o c)
+group_size W F o c = go (lead (Do o c)) refl
+  where
+    go : (x : Option (ℕ × Copying)) → lead (Do o c) ≡ x → size (led_items W F o c x) ≤ op_weight o + front_weight c (led_more W F o c x)
+    go None e = let s = one_size W F o c in omega (arith, s)
+    go (Some (k, y)) e =
+        let h = lead_is (Do o c) k y e in
+        let s = total_append (puts_items W F y (Do o c) k) (move_items y (Do o c)) in
+        omega (arith, s, puts_size W F y (Do o c) k y h.puts, move_size y (Do o c), some_put (Do o c) k y h.puts)
 
-next_size : (W : Whole) (F : Frame) (o : OpT Where) (c : NodesT Where) → size (next_items W F o c) ≤ op_weight o
-next_size W F o c =
-    next_is W F (λ xs. size xs ≤ op_weight o) (λ v. op_weight o ≡ 8) o c (λ t n e. (ap op_weight e, ap op_weight e, λ x y. ap op_weight e)) (λ t k e. (ap op_weight e, ap op_weight e, λ x y. ap op_weight e))
+-- what is given back right behind is made of fewer words than the operation weighs
+made_size_of : (W : Whole) (F : Frame) (o : OpT Where) (c : NodesT Where) → size (made_or F (made_of W F o c) []) ≤ op_weight o
+made_size_of W F o c =
+    made_or_is W F (λ xs. size xs ≤ op_weight o) (λ v. op_weight o ≡ 8) o c [] (λ t n e. (ap op_weight e, ap op_weight e, λ x y. ap op_weight e)) (λ t k e. (ap op_weight e, ap op_weight e, λ x y. ap op_weight e))
     (λ i h. let t = taking_size (op_weight o) i h in let z = one_item (item.Op i) 2 t.1 in omega (arith, z, t.0)) (
       λ p r i lt h. (let t = taking_size (op_weight o) i h in let z = two_items (fetches F p r) (item.Op i) 2 2 (fetch_size F p r) t.1 in omega (arith, z, t.0)),
       λ r q i lr lq h. (let t = taking_size (op_weight o) i h in let z = two_items (item.Op (instr.Two IADD r (src.Reg q))) (item.Op i) 2 2 (omega arith) t.1 in omega (arith, z, t.0)),
     )
-    (λ u t a b e. both_size F u a b (op_weight o) (ap op_weight e)) (group_size W F o c)
+    (λ u t a b e. both_size F u a b (op_weight o) (ap op_weight e)) (omega (arith, total_none))
+
+next_size : (W : Whole) (F : Frame) (o : OpT Where) (c : NodesT Where) → size (next_items W F o c) ≤ op_weight o + front_weight c (next_more W F o c)
+unfolding made_of
+next_size W F o c = go (made_of W F o c) (made_size_of W F o c)
+  where
+    go : (x : Option (ℕ × Made)) → size (made_or F x []) ≤ op_weight o → size (made_or F x (group_items W F o c)) ≤ op_weight o + front_weight c (made_more x (group_more W F o c))
+    go None h = group_size W F o c
+    go (Some (k, y)) h = omega (arith, h)
 
 -- a block move takes fewer words than its loop weighs
 more_size : (x : AsmItem) (xs : List AsmItem) (k n : ℕ) → item_size x ≤ k → size xs ≤ n → size (x ∷ xs) ≤ k + n
 more_size x xs k n a b = omega (arith, total_more x xs, a, b)
 
-copy_size : (f : Option ℕ) (y : Copying) → size (items_from f y) ≤ 10
-copy_size None y =
-    let to = register y.to in
-    let l6 = item.Op (instr.Mov (RegReg (register y.count) 11)) ∷ [] in
-    let x6 = one_item (item.Op (instr.Mov (RegReg (register y.count) 11))) 1 (omega arith) in
-    let l5 = item.Op (instr.Lea to 13 (Some (Left 0xFFFFFFFF))) ∷ l6 in
-    let x5 = more_size (item.Op (instr.Lea to 13 (Some (Left 0xFFFFFFFF)))) l6 2 1 (omega arith) x6 in
-    let l4 = item.Op (instr.Plain SETS) ∷ l5 in
-    let x4 = more_size (item.Op (instr.Plain SETS)) l5 1 3 (omega arith) x5 in
-    let l3 = item.Op (instr.Mov (RegReg 11 (register y.count))) ∷ l4 in
-    let x3 = more_size (item.Op (instr.Mov (RegReg 11 (register y.count)))) l4 1 4 (omega arith) x4 in
-    let x2 = more_size (item.Op (instr.Mov (RegReg 12 (register y.cell)))) l3 1 5 (omega arith) x3 in
-    let x1 = more_size (item.Op (instr.Mov (RegReg 13 to))) (item.Op (instr.Mov (RegReg 12 (register y.cell))) ∷ l3) 1 6 (omega arith) x2 in
-    omega (arith, x1)
-copy_size (Some f) y =
-    let from = register f in
-    let to = register y.to in
-    let x8 = one_item (item.Op (instr.Mov (RegAtReg (register y.cell) to))) 1 (omega arith) in
-    let x7 = more_size (item.Op (instr.Mov (RegReg (register y.count) 11))) (item.Op (instr.Mov (RegAtReg (register y.cell) to)) ∷ []) 1 1 (omega arith) x8 in
-    let l6 = item.Op (instr.Mov (RegReg (register y.count) 11)) ∷ item.Op (instr.Mov (RegAtReg (register y.cell) to)) ∷ [] in
-    let x6 = more_size (item.Op (instr.Lea to 13 (Some (Left 0xFFFFFFFF)))) l6 2 2 (omega arith) x7 in
-    let l5 = item.Op (instr.Lea to 13 (Some (Left 0xFFFFFFFF))) ∷ l6 in
-    let x5 = more_size (item.Op (instr.Lea from 12 (Some (Left 0xFFFFFFFF)))) l5 2 4 (omega arith) x6 in
-    let l4 = item.Op (instr.Lea from 12 (Some (Left 0xFFFFFFFF))) ∷ l5 in
-    let x4 = more_size (item.Op (instr.Plain MOVS)) l4 1 6 (omega arith) x5 in
-    let l3 = item.Op (instr.Plain MOVS) ∷ l4 in
-    let x3 = more_size (item.Op (instr.Mov (RegReg 11 (register y.count)))) l3 1 7 (omega arith) x4 in
-    let l2 = item.Op (instr.Mov (RegReg 11 (register y.count))) ∷ l3 in
-    let x2 = more_size (item.Op (instr.Mov (RegReg 12 from))) l2 1 8 (omega arith) x3 in
-    more_size (item.Op (instr.Mov (RegReg 13 to))) (item.Op (instr.Mov (RegReg 12 from)) ∷ l2) 1 9 (omega arith) x2
+copy_size : (y : Copying) → size (copy_items y) ≤ 10
+copy_size y = go y.from
+  where
+    go : (f : Option ℕ) → size (item.Op (instr.Plain (block_of f)) ∷ back_items f y) ≤ 10
+    go None =
+        let l2 = item.Op (instr.Mov (RegReg (register y.count) 11)) ∷ [] in
+        let x2 = one_item (item.Op (instr.Mov (RegReg (register y.count) 11))) 1 (omega arith) in
+        let x1 = more_size (item.Op (instr.Lea (register y.to) 13 (Some (Left 0xFFFFFFFF)))) l2 2 1 (omega arith) x2 in
+        let z = more_size (item.Op (instr.Plain SETS)) (item.Op (instr.Lea (register y.to) 13 (Some (Left 0xFFFFFFFF))) ∷ l2) 1 3 (omega arith) x1 in
+        omega (arith, z)
+    go (Some f) =
+        let l4 = item.Op (instr.Mov (RegAtReg (register y.cell) (register y.to))) ∷ [] in
+        let x4 = one_item (item.Op (instr.Mov (RegAtReg (register y.cell) (register y.to)))) 1 (omega arith) in
+        let l3 = item.Op (instr.Mov (RegReg (register y.count) 11)) ∷ l4 in
+        let x3 = more_size (item.Op (instr.Mov (RegReg (register y.count) 11))) l4 1 1 (omega arith) x4 in
+        let l2 = item.Op (instr.Lea (register y.to) 13 (Some (Left 0xFFFFFFFF))) ∷ l3 in
+        let x2 = more_size (item.Op (instr.Lea (register y.to) 13 (Some (Left 0xFFFFFFFF)))) l3 2 2 (omega arith) x3 in
+        let x1 = more_size (item.Op (instr.Lea (register f) 12 (Some (Left 0xFFFFFFFF)))) l2 2 4 (omega arith) x2 in
+        let z = more_size (item.Op (instr.Plain MOVS)) (item.Op (instr.Lea (register f) 12 (Some (Left 0xFFFFFFFF))) ∷ l2) 1 6 (omega arith) x1 in
+        omega (arith, z)
 
 copied_size : (done : ℕ) (b : NodesT Where) (xs : List AsmItem) → size xs ≤ nodes_weight b + 8 → size (copy_or (copy_at done b) xs) ≤ nodes_weight b + 8
 copied_size zero b xs le = le
@@ -273,7 +285,7 @@ copied_size (suc done) b xs le = go (copy_of b) refl
     go : (x : Option Copying) → copy_of b ≡ x → size (copy_or x xs) ≤ nodes_weight b + 8
     go None e = le
     go (Some y) e =
-        let z = copy_size y.from y in
+        let z = copy_size y in
         elim (copy_is b y e) [
           | inl q ↦ let w : nodes_weight b ≡ nodes_weight (copy_turn q.registers) = ap nodes_weight q.nodes in omega (arith, w, z)
           | inr q ↦ let w : nodes_weight b ≡ nodes_weight (fill_turn q.registers) = ap nodes_weight q.nodes in omega (arith, w, z)
@@ -391,7 +403,7 @@ abbrev pub Counts : CodeT Where → Whole → Type 0
 Counts x W = (g n : ℕ) → parameter_count x g ≡ Some n → n ≡ length (W.params g)
 
 module _ (x : CodeT Where) (W : Whole) (counts : Counts x W) (m : ℕ) (F : Frame) (out : Option ℕ) where
-  tests_size : (c : NodesT Where) (done : ℕ) (bs : List Bool) (to : ℕ) → AreNodes x m bs c → size (test_items W F out to c done) ≤ nodes_weight c
+  tests_size : (c : NodesT Where) (done : ℕ) (bs : List Bool) (to : ℕ) → AreNodes x m bs c → size (test_items W F out to c done) + front_weight c done ≤ nodes_weight c
   tests_size Stop done bs to ok = omega (arith, total_none)
   tests_size (Do o c) zero bs to ok =
       let more = next_more W F o c in
@@ -411,7 +423,7 @@ module _ (x : CodeT Where) (W : Whole) (counts : Counts x W) (m : ℕ) (F : Fram
       omega (arith, s, left_size F p done, tests_size c 0 bs to ok)
 
   mutual
-    past_size : (c : NodesT Where) (done : ℕ) (last : Behind) (bs : List Bool) (ls : List ℕ) (n : ℕ) → AreNodes x m bs c → size (items_past W F out last ls n c done) ≤ nodes_weight c
+    past_size : (c : NodesT Where) (done : ℕ) (last : Behind) (bs : List Bool) (ls : List ℕ) (n : ℕ) → AreNodes x m bs c → size (items_past W F out last ls n c done) + front_weight c done ≤ nodes_weight c
     past_size Stop done last bs ls n ok = omega (arith, total_none)
     past_size (Do o c) zero last bs ls n ok =
         let more = next_more W F o c in
@@ -422,18 +434,18 @@ module _ (x : CodeT Where) (W : Whole) (counts : Counts x W) (m : ℕ) (F : Fram
     past_size (Choose p a b c) done last bs ls n ok =
         let xs = cond (is_stop b) (alone F p n (left_to ls a) (items_past W F out (ends last c) ls (n + 1) a 0)) (choice F p n (n + 1 + labels a) (items_past W F out Other ls (n + 1) a 0) (items_past W F out (ends last c) ls (n + 1 + labels a + 1) b 0)) in
         let s = total_append xs (items_past W F out last ls (n + (2 + labels a + labels b)) c 0) in
-        let h = chosen_size F p n (n + 1 + labels a) (nodes_weight a) (nodes_weight b) (is_stop b) (left_to ls a) _ _ _ (past_size a 0 (ends last c) bs ls (n + 1) ok.0) (past_size a 0 Other bs ls (n + 1) ok.0) (past_size b 0 (ends last c) bs ls (n + 1 + labels a + 1) ok.1) in
+        let h = chosen_size F p n (n + 1 + labels a) (nodes_weight a) (nodes_weight b) (is_stop b) (left_to ls a) _ _ _ (whole _ _ _ (past_size a 0 (ends last c) bs ls (n + 1) ok.0)) (whole _ _ _ (past_size a 0 Other bs ls (n + 1) ok.0)) (whole _ _ _ (past_size b 0 (ends last c) bs ls (n + 1 + labels a + 1) ok.1)) in
         omega (arith, s, h, past_size c 0 last bs ls (n + (2 + labels a + labels b)) ok.2)
     past_size (Block b c) done last bs ls n ok =
         let s = total_append (enclosed n (items_past W F out (inside (ends last c)) (ls ++ n ∷ []) (n + 2) b 0)) (items_past W F out last ls (n + (2 + labels b)) c 0) in
-        let h = enclosed_size n (nodes_weight b) _ (past_size b 0 (inside (ends last c)) (false ∷ bs) (ls ++ n ∷ []) (n + 2) ok.0) in
+        let h = enclosed_size n (nodes_weight b) _ (whole _ _ _ (past_size b 0 (inside (ends last c)) (false ∷ bs) (ls ++ n ∷ []) (n + 2) ok.0)) in
         omega (arith, s, h, past_size c 0 last bs ls (n + (2 + labels b)) ok.1)
     past_size (Loop b c) done last bs ls n ok =
         let all = items_past W F out (inside (ends last c)) (ls ++ n ∷ []) (n + 2) b 0 in
         let part = part_items W F out (ls ++ n ∷ []) (n + 2) b in
         let test = test_items W F out (n + 2) b 0 in
         let s = total_append (copy_or (copy_at done b) (looped (is_tested b) n all part test)) (items_past W F out last ls (n + (2 + labels b)) c 0) in
-        let l = looped_size (is_tested b) n (nodes_weight b) all part test (past_size b 0 (inside (ends last c)) (true ∷ bs) (ls ++ n ∷ []) (n + 2) ok.0) (parts_size b 0 (true ∷ bs) (ls ++ n ∷ []) (n + 2) (n + 2) ok.0) in
+        let l = looped_size (is_tested b) n (nodes_weight b) all part test (whole _ _ _ (past_size b 0 (inside (ends last c)) (true ∷ bs) (ls ++ n ∷ []) (n + 2) ok.0)) (whole _ _ _ (parts_size b 0 (true ∷ bs) (ls ++ n ∷ []) (n + 2) (n + 2) ok.0)) in
         let h = copied_size done b (looped (is_tested b) n all part test) l in
         omega (arith, s, h, past_size c 0 last bs ls (n + (2 + labels b)) ok.1)
     past_size (Leave k c) done last bs ls n ok = let j = jump_size (add (enclosing ls k) 1) in let s = total_more (jump (add (enclosing ls k) 1)) (items_past W F out last ls n c 0) in omega (arith, s, j, past_size c 0 last bs ls n ok.1)
@@ -445,7 +457,7 @@ module _ (x : CodeT Where) (W : Whole) (counts : Counts x W) (m : ℕ) (F : Fram
         let t = total_append left rest in
         omega (arith, s, t, left_size F p done, left_by_size F out (is_end (ends last c)), past_size c 0 last bs ls n ok)
 
-    parts_size : (c : NodesT Where) (done : ℕ) (bs : List Bool) (ls : List ℕ) (n to : ℕ) → AreNodes x m bs c → size (part_items W F out ls n c) + size (test_items W F out to c done) ≤ nodes_weight c
+    parts_size : (c : NodesT Where) (done : ℕ) (bs : List Bool) (ls : List ℕ) (n to : ℕ) → AreNodes x m bs c → size (part_items W F out ls n c) + size (test_items W F out to c done) + front_weight c done ≤ nodes_weight c
     parts_size (Do o c) zero bs ls n to ok =
         let more = next_more W F o c in
         let t = total_append (next_items W F o c) (test_items W F out to c more) in
@@ -468,7 +480,7 @@ module _ (x : CodeT Where) (W : Whole) (counts : Counts x W) (m : ℕ) (F : Fram
         omega (arith, total_none, s, left_size F p done, tests_size c 0 bs to ok)
 
   pub code_size : (c : NodesT Where) (bs : List Bool) (ls : List ℕ) (n : ℕ) → AreNodes x m bs c → size (code_items W F out ls n c) ≤ nodes_weight c
-  code_size c bs ls n ok = past_size c 0 End bs ls n ok
+  code_size c bs ls n ok = let s = past_size c 0 End bs ls n ok in omega (arith, s)
 
 -- ---- the whole program
 

@@ -17,7 +17,7 @@ use Rattle.asm_laws.specs.Holds.{Setting, Named}
 use Rattle.asm_laws.specs.Acting.{Fitting, FrontFits}
 use Rattle.asm_laws.proofs.Lists.{below_or_not}
 
-both : (x y : Bool) → x && y ≡ true → (x ≡ true) × (y ≡ true)
+pub both : (x y : Bool) → x && y ≡ true → (x ≡ true) × (y ≡ true)
 both true true e = (refl, refl)
 both true false e = absurd cc
 both false y e = absurd cc

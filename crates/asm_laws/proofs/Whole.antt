@@ -1,5 +1,5 @@
 -- Placed code that stands among the words is followed by the machine, for every bound.
-use Rattle.std.proofs.Common.{◌≡◌, ℕ, List, refl, arith}
+use Rattle.std.proofs.Common.{◌≡◌, ℕ, List, refl, subst, arith}
 use Rattle.v32_isa.specs.State as machine
 use Rattle.mid_code.specs.declared.placed.Where.{Where}
 use Rattle.mid_code.specs.Code.{NodesT}
@@ -9,11 +9,11 @@ use Rattle.asm_laws.specs.Placing.{Bounds, At}
 use Rattle.asm_laws.specs.inner.Following.{Parts, Sim, begin}
 use Rattle.asm_laws.proofs.Control as control
 use Rattle.asm_laws.specs.Holds.{Setting, Fits, Ctx}
-use Rattle.asm_laws.specs.Calling.{Callable, Mach, lang, holder, shapes, FunctionAt}
-use Rattle.asm_laws.proofs.Parts.{op_sim, jump_sim, test_sim, give_sim}
+use Rattle.asm_laws.specs.Calling.{Callable, Mach, Ready, lang, holder, shapes, FunctionAt}
+use Rattle.asm_laws.proofs.Parts.{jump_sim, test_sim, give_sim}
+use Rattle.asm_laws.proofs.Led.{op_sim}
 use Rattle.asm_laws.proofs.GivenBack.{made_sim}
 use Rattle.asm_laws.proofs.Calls.{call_sim}
-use Rattle.asm_laws.proofs.KnownWords.{op_knows}
 use Rattle.asm_laws.proofs.BlockLoop.{copy_sim}
 
 module _ (S : Setting) (fits : Fits S) (functions : (g : ℕ) → Callable S g → FunctionAt S g) where
@@ -28,9 +28,11 @@ module _ (S : Setting) (fits : Fits S) (functions : (g : ℕ) → Callable S g �
     none_answers = λ s. refl;
     none_events = λ s. refl;
     none_work = λ s. refl;
-    op = op_sim S fits;
+    op = λ κ pc p more o c s m st e h. op_sim S fits κ pc p more o c s m st e h;
     made = made_sim S fits;
-    knows = λ κ pc p more o c s t at e. op_knows S κ.fn pc p more o c s t at e;
+    plain_first = λ b. refl;
+    ready_first = λ κ b s m h. h;
+    ready_plain = λ κ b k s m q h. subst (λ z. Ready S κ z s m) q h;
     copy = copy_sim S fits;
     test = test_sim S fits;
     give = give_sim S fits;

@@ -1,5 +1,5 @@
 -- How the machine holds the states of placed code, and where its parts stand.
-use Rattle.std.specs.Prelude.{◌≡◌, ℕ, ◌<◌, ◌⊎◌, true, List, [], length, get_or, Option, Some}
+use Rattle.std.specs.Prelude.{◌≡◌, ℕ, ◌<◌, ◌⊎◌, true, false, List, [], length, get_or, Option, Some, None}
 use Rattle.v32_isa.specs.State.{register_of, word_at}
 use Rattle.v32_isa.specs.State as machine
 use Rattle.mid_code.specs.declared.placed.Where.{Where}
@@ -17,7 +17,7 @@ use Rattle.asm_laws.specs.declared.made.Made.{Made}
 use Rattle.asm_laws.specs.Operations.{group_items, group_more, made_of, made_items, call_items, giving}
 use Rattle.asm_laws.specs.Standing.{Stand}
 use Rattle.asm_laws.specs.declared.copying.Copying.{Copying}
-use Rattle.asm_laws.specs.Copies.{copy_of, copy_at, copy_items, is_count}
+use Rattle.asm_laws.specs.Copies.{copy_at, copy_items, is_moved, source, is_count}
 use Rattle.asm_laws.specs.Tests.{Tests}
 use Rattle.asm_laws.specs.Addresses.{Addr, having, Held}
 use Rattle.asm_laws.specs.Spare.{Stays, Sparing}
@@ -61,10 +61,24 @@ pub record EndedIn (S : Setting) (s : State Where) (m : machine.State) : Type 0 
   pub mach : Mach S context s shown
   pub memory : (q : ℕ) → word_at m q ≡ word_at shown q
 
--- A loop that copies words begins with a count of these that is known, and with a 1.
-pub record Counted (b : NodesT Where) (s : State Where) : Type 0 where
-  pub count : (y : Copying) → copy_of b ≡ Some y → (n : ℕ) × (s.cells (Reg y.count) ≡ Num n) × (is_count (Some n) ≡ true)
-  pub one : (y : Copying) → copy_of b ≡ Some y → s.cells (Reg y.one) ≡ Num 1
+-- Before a loop that copies or fills words, of which the count is known and 1, the machine's registers of block moves have the words of three places. What
+-- these places have themselves is nobody's business, since the loop changes them.
+pub record ReadyFor (S : Setting) (κ : Ctx) (y : Copying) (s : State Where) (m : machine.State) : Type 0 where
+  pub place : ℕ → ℕ
+  pub words : Addr
+  pub at : HoldsAt S κ s.world.store s.cells place words
+  pub registers : ℕ → ℕ
+  pub held : Held S.console (having registers words) m
+  pub like : (r : ℕ) → r < (S.whole.frames κ.fn).registers → is_moved y r ≡ false → registers r ≡ words.regs r
+  pub target : register_of m 13 ≡ words.regs y.to
+  pub read : register_of m 12 ≡ words.regs (source y.from y)
+  pub count : register_of m 11 ≡ words.regs y.count
+  pub known : (n : ℕ) × (s.cells (Reg y.count) ≡ Num n) × (is_count (Some n) ≡ true)
+  pub one : s.cells (Reg y.one) ≡ Num 1
+
+abbrev pub Ready : (S : Setting) → Ctx → Option Copying → State Where → machine.State → Type 0
+Ready S κ None s m = Mach S κ s m
+Ready S κ (Some y) s m = ReadyFor S κ y s m
 
 -- A function ends at an address: its body does, or its frame is taken away there, and it goes back. The start was not called and cannot.
 abbrev pub ExitAt : Setting → (f pc : ℕ) → Type 0
@@ -87,7 +101,7 @@ holder S = record {
   fn = λ κ. κ.fn;
   entry = S.enters;
   exits = ExitAt S;
-  known = Counted;
+  ready = λ κ b k s m. Ready S κ (copy_at k b) s m;
 }
 
 -- a call of a function
@@ -129,7 +143,8 @@ shapes S = record {
   words = S.console.words;
   op = λ f pc o c more p. Fitting S f o × FrontFits S f c more
       × Stand S.console.words S.address pc (group_items S.whole (S.whole.frames f) o c) p
-      × (more ≡ group_more S.whole (S.whole.frames f) o c) × Sparing (S.whole.frames f).registers (Do o c) 0;
+      × (more ≡ group_more S.whole (S.whole.frames f) o c) × Sparing (S.whole.frames f).registers (Do o c) 0
+      × Names (Named S f) (Do o c);
   call = CallAt S;
   test = λ f pc w other next. Named S f w × Tests S.console.words S.address (S.whole.frames f) pc w other next
       × Stays (S.whole.frames f).registers w;
@@ -137,6 +152,7 @@ shapes S = record {
   made = MadeAt S;
   copy = λ f pc b k p. (y : Copying) × (copy_at k b ≡ Some y) × Stand S.console.words S.address pc (copy_items y) p × Names (Named S f) b
       × Sparing (S.whole.frames f).registers b 0;
+  plain = λ b k. copy_at k b ≡ None;
 }
 
 -- a function stands among the words

@@ -1,5 +1,5 @@
 -- Loops that copy words one by one, or fill them with one word, and the operations that put known words into registers before them.
-use Rattle.std.specs.Prelude.{ℕ, zero, suc, ◌+◌, ◌==◌, ◌&&◌, not, nat_lt, cond, Bool, true, false, List, [], ◌∷◌, ◌++◌, Option, Some, None}
+use Rattle.std.specs.Prelude.{ℕ, zero, suc, ◌+◌, ◌==◌, ◌&&◌, not, ◌||◌, nat_lt, cond, Bool, true, false, List, [], ◌∷◌, ◌++◌, Option, Some, None}
 use Rattle.either.specs.declared.Either.TheVariants.{Left}
 use Rattle.v32_isa.specs.declared.instruction.Plain.{Plain}
 use Rattle.v32_isa.specs.declared.instruction.Plain.TheVariants.{MOVS, SETS}
@@ -9,9 +9,9 @@ use Rattle.v32_isa.specs.declared.instruction.Instr.TheVariants as instr
 use Rattle.asm_items.specs.declared.item.AsmItem.{AsmItem}
 use Rattle.asm_items.specs.declared.item.AsmItem.TheVariants as item
 use Rattle.mid_code.specs.declared.placed.Where.{Where}
-use Rattle.mid_code.specs.declared.placed.Where.TheVariants.{Reg}
+use Rattle.mid_code.specs.declared.placed.Where.TheVariants.{Reg, Slot}
 use Rattle.mid_code.specs.Code.{NodesT, Stop, Do, Choose, Loop, Again}
-use Rattle.mid_code.specs.Code.{ConstO, TwoO, GlobalO, StepO, LoadO, StoreO}
+use Rattle.mid_code.specs.Code.{OpT, ConstO, MoveO, TwoO, GlobalO, LocalO, StepO, LoadO, StoreO}
 use Rattle.asm_laws.specs.declared.copying.Copying.{Copying}
 use Rattle.asm_laws.specs.Pieces.{register}
 
@@ -81,24 +81,50 @@ copy_of _ = None
 
 -- ---- the operations before it
 
--- the registers of such a loop, where only operations that put a known word or a global's address into a register come before it
+-- the register into which an operation puts a word that takes no more than one instruction
+abbrev pub put_into : OpT Where → Option ℕ
+put_into (ConstO (Reg r) n) = Some r
+put_into (GlobalO (Reg r) k) = Some r
+put_into (LocalO (Reg r) k) = Some r
+put_into (MoveO (Reg r) p) = Some r
+put_into _ = None
+
+-- the registers of such a loop, where only operations of that kind come before it
 unfoldable pub copy_after : NodesT Where → Option Copying
 copy_after (Do (ConstO (Reg r) n) c) = copy_after c
 copy_after (Do (GlobalO (Reg r) k) c) = copy_after c
+copy_after (Do (LocalO (Reg r) k) c) = copy_after c
+copy_after (Do (MoveO (Reg r) p) c) = copy_after c
 copy_after (Loop b c) = copy_of b
 copy_after _ = None
 
--- how many these are, where so many came before; at most 4
-unfoldable pub puts_ahead : (before : ℕ) → NodesT Where → Option ℕ
-puts_ahead k (Do (ConstO (Reg r) n) c) = cond (k == 4) None (puts_ahead (k + 1) c)
-puts_ahead k (Do (GlobalO (Reg r) j) c) = cond (k == 4) None (puts_ahead (k + 1) c)
-puts_ahead k (Loop b c) = Some k
-puts_ahead k _ = None
+abbrev pub is_from : (from : Option ℕ) → (register : ℕ) → Bool
+is_from None r = false
+is_from (Some f) r = r == f
+
+-- The registers whose words go right to those of the block move, since the loop leaves others in them: the addresses and the count.
+abbrev pub is_moved : Copying → (register : ℕ) → Bool
+is_moved y r = (r == y.to) || (is_from y.from r || (r == y.count))
+
+abbrev pub reads_moved : Copying → Where → Bool
+reads_moved y (Reg q) = is_moved y q
+reads_moved y (Slot k) = false
+
+-- how many these are, where so many came before; at most 8, and none takes its word from such a register
+unfoldable pub puts_ahead : Copying → (before : ℕ) → NodesT Where → Option ℕ
+puts_ahead y k (Do (ConstO (Reg r) n) c) = cond (k == 8) None (puts_ahead y (k + 1) c)
+puts_ahead y k (Do (GlobalO (Reg r) j) c) = cond (k == 8) None (puts_ahead y (k + 1) c)
+puts_ahead y k (Do (LocalO (Reg r) j) c) = cond (k == 8) None (puts_ahead y (k + 1) c)
+puts_ahead y k (Do (MoveO (Reg r) p) c) = cond ((k == 8) || reads_moved y p) None (puts_ahead y (k + 1) c)
+puts_ahead y k (Loop b c) = Some k
+puts_ahead y k _ = None
 
 -- the word that they put into a register last, where one is known already
 unfoldable pub last_put : (register : ℕ) → NodesT Where → (known : Option ℕ) → Option ℕ
 last_put r (Do (ConstO (Reg q) n) c) x = last_put r c (cond (r == q) (Some n) x)
 last_put r (Do (GlobalO (Reg q) k) c) x = last_put r c (cond (r == q) None x)
+last_put r (Do (LocalO (Reg q) k) c) x = last_put r c (cond (r == q) None x)
+last_put r (Do (MoveO (Reg q) p) c) x = last_put r c (cond (r == q) None x)
 last_put r _ x = x
 
 -- a number of words that a block move copies
@@ -110,16 +136,20 @@ abbrev pub is_one : Option ℕ → Bool
 is_one None = false
 is_one (Some n) = n == 1
 
--- behind an operation that puts a word into a register, which is known or not
-abbrev pub leads : (register : ℕ) → Option ℕ → NodesT Where → Option Copying → Option ℕ
-leads r x c None = None
-leads r x c (Some y) =
-    cond (is_count (last_put y.count c (cond (y.count == r) x None)) && is_one (last_put y.one c (cond (y.one == r) x None))) (puts_ahead 1 c) None
+-- Operations that come first, before a loop whose count and 1 are known by them, where so many are counted: how many they are, and the registers of the loop.
+abbrev pub leads_to : Copying → NodesT Where → Option ℕ → Option (ℕ × Copying)
+leads_to y c None = None
+leads_to y c (Some k) = cond (is_count (last_put y.count c None) && is_one (last_put y.one c None)) (Some (k, y)) None
 
--- How many operations that come first put words into registers, before a loop whose count and 1 are known by them.
-unfoldable pub lead : NodesT Where → Option ℕ
-lead (Do (ConstO (Reg r) n) c) = leads r (Some n) c (copy_after c)
-lead (Do (GlobalO (Reg r) k) c) = leads r None c (copy_after c)
+abbrev pub leads : NodesT Where → Option Copying → Option (ℕ × Copying)
+leads c None = None
+leads c (Some y) = leads_to y c (puts_ahead y 0 c)
+
+unfoldable pub lead : NodesT Where → Option (ℕ × Copying)
+lead (Do (ConstO (Reg r) n) c) = leads (Do (ConstO (Reg r) n) c) (copy_after c)
+lead (Do (GlobalO (Reg r) k) c) = leads (Do (GlobalO (Reg r) k) c) (copy_after c)
+lead (Do (LocalO (Reg r) k) c) = leads (Do (LocalO (Reg r) k) c) (copy_after c)
+lead (Do (MoveO (Reg r) p) c) = leads (Do (MoveO (Reg r) p) c) (copy_after c)
 lead _ = None
 
 -- the registers of a loop before which so many operations of that kind are done
@@ -129,15 +159,40 @@ copy_at (suc k) b = copy_of b
 
 -- ---- its instructions
 
--- The block move takes the address to write to, that to read from or the word, and the count, and writes a word in each step. Then the registers have what
--- the loop leaves in them: the addresses of the last words, 0, and the last word that was read.
-abbrev pub block_items : (source : ℕ) → Plain → Copying → List AsmItem
-block_items source o y = item.Op (instr.Mov (RegReg 13 (register y.to))) ∷ item.Op (instr.Mov (RegReg 12 (register source)))
-    ∷ item.Op (instr.Mov (RegReg 11 (register y.count))) ∷ item.Op (instr.Plain o) ∷ []
+-- The block move takes the address to write to from DR, that to read from, or the word of a fill, from SR, and the count from CR. An operation that puts one of
+-- these into its register before the loop puts it there at once.
+abbrev pub goes_to : Copying → (register : ℕ) → ℕ
+goes_to y r = cond (r == y.to) 13 (cond (is_from y.from r) 12 (cond (r == y.count) 11 r))
 
-abbrev pub move_items : (from : Option ℕ) → Copying → List AsmItem
-move_items None y = block_items y.cell SETS y
-move_items (Some f) y = block_items f MOVS y
+-- whether one of the operations that come first puts a word into a register, or that is known already
+unfoldable pub is_put : (register : ℕ) → (known : Bool) → NodesT Where → Bool
+is_put r x (Do (ConstO (Reg q) n) c) = is_put r (x || (q == r)) c
+is_put r x (Do (GlobalO (Reg q) k) c) = is_put r (x || (q == r)) c
+is_put r x (Do (LocalO (Reg q) k) c) = is_put r (x || (q == r)) c
+is_put r x (Do (MoveO (Reg q) p) c) = is_put r (x || (q == r)) c
+is_put r x _ = x
+
+-- The others are moved behind these operations.
+abbrev pub move_item : (is_there : Bool) → (into register : ℕ) → List AsmItem
+move_item true t r = []
+move_item false t r = item.Op (instr.Mov (RegReg t (register r))) ∷ []
+
+abbrev pub source : (from : Option ℕ) → Copying → ℕ
+source None y = y.cell
+source (Some f) y = f
+
+abbrev pub source_put : (from : Option ℕ) → (known : Bool) → NodesT Where → Bool
+source_put None x c = false
+source_put (Some f) x c = is_put f x c
+
+abbrev pub move_items : Copying → NodesT Where → List AsmItem
+move_items y c = move_item (is_put y.to false c) 13 y.to
+    ++ (move_item (source_put y.from false c) 12 (source y.from y) ++ move_item (is_put y.count false c) 11 y.count)
+
+-- A word is written in each step. Then the registers have what the loop leaves in them: the addresses of the last words, 0, and the last word that was read.
+abbrev pub block_of : (from : Option ℕ) → Plain
+block_of None = SETS
+block_of (Some f) = MOVS
 
 abbrev pub last_item : (address past : ℕ) → AsmItem
 last_item r q = item.Op (instr.Lea (register r) q (Some (Left 0xFFFFFFFF)))
@@ -147,11 +202,8 @@ back_items None y = last_item y.to 13 ∷ item.Op (instr.Mov (RegReg (register y
 back_items (Some f) y = last_item f 12 ∷ last_item y.to 13 ∷ item.Op (instr.Mov (RegReg (register y.count) 11))
     ∷ item.Op (instr.Mov (RegAtReg (register y.cell) (register y.to))) ∷ []
 
-abbrev pub items_from : (from : Option ℕ) → Copying → List AsmItem
-items_from f y = move_items f y ++ back_items f y
-
 abbrev pub copy_items : Copying → List AsmItem
-copy_items y = items_from y.from y
+copy_items y = item.Op (instr.Plain (block_of y.from)) ∷ back_items y.from y
 
 abbrev pub copy_or : Option Copying → (other : List AsmItem) → List AsmItem
 copy_or None other = other

@@ -27,7 +27,8 @@ use Rattle.asm_laws.specs.Pieces.{register, is_in, turned, other_word, loads_the
 use Rattle.asm_laws.specs.declared.made.Made.{Made}
 use Rattle.asm_laws.specs.declared.made.Made.TheVariants.{Both, Known}
 use Rattle.asm_laws.specs.Spare.{operand, used_by}
-use Rattle.asm_laws.specs.Copies.{lead}
+use Rattle.asm_laws.specs.declared.copying.Copying.{Copying}
+use Rattle.asm_laws.specs.Copies.{lead, goes_to, move_items}
 
 -- the frame of a function: its size, and the offsets of its slots and of its locals' first words. Offset 0 is the
 -- frame's lowest word. A slot that is not listed has its number as its offset. So many of its words are on the stack: all, but none of the start's
@@ -330,23 +331,26 @@ abbrev pub more_of : Option (ℕ × Option (Instr Imm) × Instr Imm) → ℕ
 more_of None = 0
 more_of (Some (more, first, i)) = more
 
--- The operations that come first before a loop that copies words put each its word into its register, so many of them.
-abbrev pub put_item : Option (ℕ × ℕ) → List AsmItem
-put_item None = []
-put_item (Some (r, w)) = item.Op (instr.Mov (RegImm r (Left w))) ∷ []
+-- The operations that come first before a loop that copies words put each its word where it goes, so many of them.
+abbrev pub put_items : Whole → Frame → Copying → OpT Where → List AsmItem
+put_items W F y (ConstO (Reg r) n) = sets F (Reg (goes_to y r)) (Left n)
+put_items W F y (GlobalO (Reg r) k) = sets F (Reg (goes_to y r)) (Left (get_or W.globals k 0))
+put_items W F y (LocalO (Reg r) k) = item.Op (instr.Lea (aim (Reg (goes_to y r))) 15 (Some (Left (local_word F k)))) ∷ []
+put_items W F y (MoveO (Reg r) p) = moves F (Reg (goes_to y r)) p
+put_items W F y o = []
 
-abbrev pub puts_items : Whole → NodesT Where → (count : ℕ) → List AsmItem
-puts_items W (Do o c) (suc k) = put_item (word_put W o) ++ puts_items W c k
-puts_items W _ k = []
+abbrev pub puts_items : Whole → Frame → Copying → NodesT Where → (count : ℕ) → List AsmItem
+puts_items W F y (Do o c) (suc k) = put_items W F y o ++ puts_items W F y c k
+puts_items W F y _ k = []
 
 -- The items of an operation and of those that are done with it, and how many are; before such a loop that is one of these.
-abbrev pub led_items : Whole → Frame → OpT Where → NodesT Where → Option ℕ → List AsmItem
+abbrev pub led_items : Whole → Frame → OpT Where → NodesT Where → Option (ℕ × Copying) → List AsmItem
 led_items W F o c None = one_or_more W F o (in_one W F o c)
-led_items W F o c (Some k) = puts_items W (Do o c) k
+led_items W F o c (Some (k, y)) = puts_items W F y (Do o c) k ++ move_items y (Do o c)
 
-abbrev pub led_more : Whole → Frame → OpT Where → NodesT Where → Option ℕ → ℕ
+abbrev pub led_more : Whole → Frame → OpT Where → NodesT Where → Option (ℕ × Copying) → ℕ
 led_more W F o c None = more_of (in_one W F o c)
-led_more W F o c (Some k) = k
+led_more W F o c (Some (k, y)) = k
 
 abbrev pub group_items : Whole → Frame → OpT Where → NodesT Where → List AsmItem
 group_items W F o c = led_items W F o c (lead (Do o c))

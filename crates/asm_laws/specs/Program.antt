@@ -1,5 +1,5 @@
 -- A program of placed code among its words, as the emitter promises it.
-use Rattle.std.specs.Prelude.{◌≡◌, ℕ, ◌<◌, true, List, [], ◌∷◌, length, slice_get, Option, Some}
+use Rattle.std.specs.Prelude.{◌≡◌, ℕ, ◌<◌, true, List, [], ◌∷◌, length, slice_get, Option, Some, None}
 use Rattle.either.specs.declared.Either.TheVariants.{Right}
 use Rattle.v32_isa.specs.declared.instruction.Plain.TheVariants.{HLT}
 use Rattle.v32_isa.specs.declared.instruction.Go.TheVariants.{CALL}
@@ -39,6 +39,7 @@ items_at S = record {
       × (q : ℕ) × Stand S.console.words S.address pc (made_items (S.whole.frames f) made) q
       × (out : ℕ) × Passes S.console.words q out × ExitAt S f out;
   copy = λ f pc b k p. (y : Copying) × (copy_at k b ≡ Some y) × Stand S.console.words S.address pc (copy_items y) p;
+  plain = λ b k. copy_at k b ≡ None;
 }
 
 -- a function stands among the words

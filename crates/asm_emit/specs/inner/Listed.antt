@@ -12,9 +12,10 @@ use Rattle.mid_code.specs.Code.{NodesT, OpT, Do, Call, Return, Stop}
 use Rattle.mid_code.specs.Functions.{op_before, NodeT, DoN, ChooseN, BlockN, LoopN, LeaveN, AgainN, ReturnN, ListT, NoN, MoreN, before, joined}
 use Rattle.asm_laws.specs.Operations.{Frame, Whole, op_items, word_put, with_word, is_spared, with_known, in_one, before_it, call_items}
 use Rattle.asm_laws.specs.declared.made.Made.{Made}
-use Rattle.asm_laws.specs.Operations.{hand, brings, puts_items, put_item, giving, given_first, made_both, made_with, first_made, made_of, made_or}
+use Rattle.asm_laws.specs.Operations.{hand, brings, put_items, puts_items, giving, given_first, made_both, made_with, first_made, made_of, made_or}
 use Rattle.asm_laws.specs.Spare.{used_by}
-use Rattle.asm_laws.specs.Copies.{lead, copy_at, copy_or}
+use Rattle.asm_laws.specs.declared.copying.Copying.{Copying}
+use Rattle.asm_laws.specs.Copies.{reads_moved, puts_ahead, last_put, is_count, is_one, lead, move_items, copy_at, copy_or}
 use Rattle.asm_laws.specs.declared.behind.Behind.{Behind}
 use Rattle.asm_laws.specs.declared.behind.Behind.TheVariants.{Other, End, Turn}
 use Rattle.asm_laws.specs.inner.Emitted.{enclosing, jump, alone, choice, enclosed, left_by, inside, is_end, again, looped, jump_when}
@@ -73,13 +74,27 @@ is_call (op.Call t f args) = true
 is_call _ = false
 
 -- what is done ahead with an operation that stands first: words that are put into registers before a loop that copies words, or what is done in one go
-abbrev pub led_ahead : Whole → Frame → OpT Where → NodesT Where → Option ℕ → List AsmItem
+abbrev pub led_ahead : Whole → Frame → OpT Where → NodesT Where → Option (ℕ × Copying) → List AsmItem
 led_ahead W F o c None = ahead_items (in_one W F o c)
-led_ahead W F o c (Some j) = puts_items W (Do o c) j
+led_ahead W F o c (Some (j, y)) = puts_items W F y (Do o c) j ++ move_items y (Do o c)
 
-abbrev pub led_behind : Whole → Frame → OpT Where → NodesT Where → Option ℕ → Option ℕ
+abbrev pub led_behind : Whole → Frame → OpT Where → NodesT Where → Option (ℕ × Copying) → Option ℕ
 led_behind W F o c None = ahead_more (in_one W F o c)
-led_behind W F o c (Some j) = Some j
+led_behind W F o c (Some (j, y)) = Some j
+
+-- such words, where the first one is put into register r, and is that of a place where one is given
+abbrev pub takes_moved : Copying → Option Where → Bool
+takes_moved y None = false
+takes_moved y (Some p) = reads_moved y p
+
+abbrev pub leads_with : (register : ℕ) → Option ℕ → Copying → NodesT Where → Option ℕ → Option (ℕ × Copying)
+leads_with r w y c None = None
+leads_with r w y c (Some k) =
+    cond (is_count (last_put y.count c (cond (y.count == r) w None)) && is_one (last_put y.one c (cond (y.one == r) w None))) (Some (k, y)) None
+
+abbrev pub leads_behind : (register : ℕ) → Option ℕ → Option Where → NodesT Where → Option Copying → Option (ℕ × Copying)
+leads_behind r w p c None = None
+leads_behind r w p c (Some y) = cond (takes_moved y p) None (leads_with r w y c (puts_ahead y 1 c))
 
 -- what makes a word that is given back, where an operation stands first before other nodes
 abbrev pub front_both : NodesT Where → Option Where → Option (ℕ × Made)
@@ -109,9 +124,13 @@ abbrev pub copied_own : (done : ℕ) → NodeT Where → List AsmItem → List A
 copied_own k (LoopN b) own = copy_or (copy_at k (joined b)) own
 copied_own k _ own = own
 
--- the word that an operation puts into a register, where so many are left, and how many are left behind it
-abbrev pub put_here : Whole → Op Where → (left : ℕ) → List AsmItem
-put_here W o k = cond (k == 0) [] (put_item (front_put W (op_before o Stop)))
+-- what puts the word of an operation where it goes, where so many are left, and how many are left behind it
+abbrev pub front_there : Whole → Frame → Copying → NodesT Where → List AsmItem
+front_there W F y (Do o c) = put_items W F y o
+front_there W F y _ = []
+
+abbrev pub put_here : Whole → Frame → Copying → Op Where → (left : ℕ) → List AsmItem
+put_here W F y o k = cond (k == 0) [] (front_there W F y (op_before o Stop))
 
 abbrev pub left_behind : Op Where → (left : ℕ) → Option ℕ
 left_behind o k = cond (k == 0) None (cond (is_call o) None (Some (k - 1)))
@@ -121,17 +140,17 @@ abbrev pub puts_from : Option ℕ → (puts : ℕ → List AsmItem) → List Asm
 puts_from None puts = []
 puts_from (Some k) puts = puts k
 
-abbrev pub put_first : Whole → NodeT Where → (left : ℕ) → List AsmItem
-put_first W (DoN o) k = put_here W o k
-put_first W _ k = []
+abbrev pub put_first : Whole → Frame → Copying → NodeT Where → (left : ℕ) → List AsmItem
+put_first W F y (DoN o) k = put_here W F y o k
+put_first W F y _ k = []
 
 abbrev pub left_after : NodeT Where → (left : ℕ) → Option ℕ
 left_after (DoN o) k = left_behind o k
 left_after _ k = None
 
-abbrev pub list_puts : Whole → ListT Where → (left : ℕ) → List AsmItem
-list_puts W NoN k = []
-list_puts W (MoreN x rest) k = put_first W x k ++ puts_from (left_after x k) (list_puts W rest)
+abbrev pub list_puts : Whole → Frame → Copying → ListT Where → (left : ℕ) → List AsmItem
+list_puts W F y NoN k = []
+list_puts W F y (MoreN x rest) k = put_first W F y x k ++ puts_from (left_after x k) (list_puts W F y rest)
 
 -- the labels of a node whose own items are due
 abbrev pub labels_due : Option ℕ → ℕ → ℕ

@@ -25,8 +25,8 @@ pub record Holder (L : Lang Where) : Type 1 where
   pub fn : K → ℕ
   pub entry : ℕ → ℕ
   pub exits : (function pc : ℕ) → Type 0
-  -- what is known where a loop with such a body begins that is done by a block move
-  pub known : NodesT Where → L.S → Type 0
+  -- before a loop with such a body, behind so many operations that are done already
+  pub ready : K → NodesT Where → ℕ → L.S → State → Type 0
 
 -- what there is at the beginning of some steps: answers, events, work
 pub record Begin : Type 0 where
@@ -93,9 +93,12 @@ Sim X κ m b e n ls (Repeats k t) = Came X m b t (begin_of ls k) (due (owed ls k
 Sim X κ m b e n ls (Returns t) = (q : ℕ) × X.exits (X.fn κ) q × Came X m b t q 0 0 (X.G κ t)
 Sim X κ m b e n ls (Over f t) = Final X n m b f t
 
+abbrev pub DidBy : {L : Lang Where} → (X : Holder L) → State → Begin → ℕ → (L.S → State → Type 0) → Did L.S → Type 0
+DidBy X m b p R (On t) = Came X m b t p 0 0 (R t)
+DidBy X m b p R (Ends f t) = (n : ℕ) → Final X n m b f t
+
 abbrev pub DidSim : {L : Lang Where} → (X : Holder L) → X.K → State → Begin → ℕ → Did L.S → Type 0
-DidSim X κ m b p (On t) = Came X m b t p 0 0 (X.M κ t)
-DidSim X κ m b p (Ends f t) = (n : ℕ) → Final X n m b f t
+DidSim X κ m b p d = DidBy X m b p (X.M κ) d
 
 -- A call has come to the function's body, with 8 spare for the way back; from where the function ends, be it behind the body or before, it comes back.
 pub record Enters {L : Lang Where} (X : Holder L) (H : Shapes) (κ : X.K) (p : ℕ) (t : Option Where) (f : ℕ) (u s0 : L.S) (m : State) (b : Begin) : Type 0 where
@@ -136,15 +139,18 @@ front_acts L (Leave j c) k s = On s
 front_acts L (Again j c) k s = On s
 front_acts L (Return w c) k s = On s
 
--- what is known behind so many operations in front
-abbrev pub known_at : {L : Lang Where} → (X : Holder L) → NodesT Where → ℕ → L.S → Type 0
-known_at X b zero s = Unit {0}
-known_at X b (suc k) s = X.known b s
-
-abbrev pub knows : {L : Lang Where} → (X : Holder L) → NodesT Where → ℕ → L.S → Type 0
-knows {L} X (Do o c) (suc k) s = (t : L.S) → L.act o s ≡ On t → knows X c k t
-knows {L} X (Loop b c) k s = known_at X b k s
-knows {L} X _ k s = Unit {0}
+-- how the machine holds a state behind so many operations in front, where a loop that comes next may be done by a block move
+abbrev pub at_front : {L : Lang Where} → (X : Holder L) → X.K → NodesT Where → ℕ → L.S → State → Type 0
+at_front X κ Stop k s m = X.M κ s m
+at_front X κ (Do o c) zero s m = X.M κ s m
+at_front X κ (Do o c) (suc k) s m = at_front X κ c k s m
+at_front X κ (Call t g args c) k s m = X.M κ s m
+at_front X κ (Choose w x y c) k s m = X.M κ s m
+at_front X κ (Block b c) k s m = X.M κ s m
+at_front X κ (Loop b c) k s m = X.ready κ b k s m
+at_front X κ (Leave j c) k s m = X.M κ s m
+at_front X κ (Again j c) k s m = X.M κ s m
+at_front X κ (Return w c) k s m = X.M κ s m
 
 -- what the parts keep
 pub record Parts (L : Lang Where) (X : Holder L) (H : Shapes) : Type 0 where
@@ -159,12 +165,13 @@ pub record Parts (L : Lang Where) (X : Holder L) (H : Shapes) : Type 0 where
   pub none_events : (s : L.S) → X.events (L.none s) ≡ X.events s
   pub none_work : (s : L.S) → X.work (L.none s) ≡ X.work s
   pub op : (κ : X.K) (pc p more : ℕ) (o : OpT Where) (c : NodesT Where) (s : L.S) (m : State) → H.op (X.fn κ) pc o c more p → m.counter ≡ pc
-      → X.M κ s m → DidSim X κ m (begin X s) p (did_then (L.act o s) (front_acts L c more))
+      → X.M κ s m → DidBy X m (begin X s) p (at_front X κ c more) (did_then (L.act o s) (front_acts L c more))
   pub made : (κ : X.K) (pc : ℕ) (o : OpT Where) (c : NodesT Where) (s : L.S) (m : State) → H.made (X.fn κ) pc o c → m.counter ≡ pc → X.M κ s m
       → (e n : ℕ) (ls : List Bounds) → Sim X κ m (begin X s) e n ls (did (L.act o s) (does L n (below L n) c))
-  pub knows : (κ : X.K) (pc p more : ℕ) (o : OpT Where) (c : NodesT Where) (s t : L.S) → H.op (X.fn κ) pc o c more p → L.act o s ≡ On t
-      → knows X c more t
-  pub copy : (κ : X.K) (pc p k : ℕ) (b : NodesT Where) (s : L.S) (m : State) → H.copy (X.fn κ) pc b k p → known_at X b k s → m.counter ≡ pc → X.M κ s m
+  pub plain_first : (b : NodesT Where) → H.plain b zero
+  pub ready_first : (κ : X.K) (b : NodesT Where) (s : L.S) (m : State) → X.M κ s m → X.ready κ b zero s m
+  pub ready_plain : (κ : X.K) (b : NodesT Where) (k : ℕ) (s : L.S) (m : State) → H.plain b k → X.ready κ b k s m → X.M κ s m
+  pub copy : (κ : X.K) (pc p k : ℕ) (b : NodesT Where) (s : L.S) (m : State) → H.copy (X.fn κ) pc b k p → m.counter ≡ pc → X.ready κ b k s m
       → (n : ℕ) (ls : List Bounds)
       → Sim X κ m (begin X s) p n ls (turn_done (does L n (below L n) b (L.tick node_weight s)) (below L n (Loop b Stop)))
   pub test : (κ : X.K) (pc py px : ℕ) (w : Where) (s : L.S) (m : State) → H.test (X.fn κ) pc w py px → m.counter ≡ pc → X.M κ s m

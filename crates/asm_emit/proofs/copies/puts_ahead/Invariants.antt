@@ -5,6 +5,6 @@ use Rattle.asm_emit.proofs.copies.puts_ahead.Given as goal
 
 abbrev pub invariant-loop-x : goal.invariant-loop-x
 invariant-loop-x l = record {
-  few : l.count ≤ 4;
-  same : puts_ahead l.count (nodes (drop l.x-index l.xs)) ≡ puts_ahead 1 (nodes l.xs);
+  few : l.count ≤ 8;
+  same : puts_ahead l.y l.count (nodes (drop l.x-index l.xs)) ≡ puts_ahead l.y 1 (nodes l.xs);
 }

@@ -18,7 +18,7 @@ use Rattle.mid_code.specs.declared.placed.Where.{Where}
 use Rattle.mid_code.specs.declared.placed.Where.TheVariants.{Reg, Slot}
 use Rattle.mid_code.specs.Code.{OpT, ConstO, NullO, MoveO, OneO, TwoO, GlobalO, LocalO, LiteralO, CardO, StepO, ApartO, PtrTestO, LoadO, StoreO, FreshO, EndO, InO, OutO, WaitO, HaltO, NodesT, Stop, Do, Call, Choose, Block, Loop, Leave, Again, Return}
 use Rattle.asm_laws.specs.Moves.{Move, in_order}
-use Rattle.asm_laws.specs.Operations.{Frame, Whole, keep, fetches, keeps, keeps_some, hand, brings, takes, aim, lays, moves, changes, is_direct, in_place, apart, is_turned, turned_or_apart, computes, slot_arg, slot_args, moved_items, args_items, call_items, op_items, in_one, one_or_more, giving, put_items, puts_items, group_items, giving_left, next_items, next_more}
+use Rattle.asm_laws.specs.Operations.{Frame, Whole, keep, fetches, keeps, keeps_some, hand, brings, takes, aim, lays, moves, changes, is_direct, in_place, apart, is_turned, turned_or_apart, computes, slot_arg, slot_args, moved_items, args_items, call_items, op_items, in_one, one_or_more, giving, word_items, put_items, puts_items, group_items, giving_left, next_items, next_more}
 use Rattle.asm_laws.specs.Pieces.{register, is_in, turned}
 use Rattle.asm_laws.specs.Framing.{frame_made, frame_gone}
 use Rattle.asm_laws.specs.declared.behind.Behind.{Behind}
@@ -26,8 +26,9 @@ use Rattle.asm_laws.specs.declared.behind.Behind.TheVariants.{Other, End, Turn}
 use Rattle.asm_laws.specs.inner.Emitted.{labels, jump, jump_unless, mark, first_part, second_part, choice, alone, left_to, ends, jump_when, is_stop, enclosed, leaving, left_by, items_past, code_items, call_item, own_items, exit_items, inside, is_end, is_turn, again, rotated, looped, is_tested, part_items, test_items, enclosing}
 use Rattle.asm_emit.specs.EmittedFrom.{IsCode}
 use Rattle.asm_laws.specs.declared.copying.Copying.{Copying}
-use Rattle.asm_laws.specs.Copies.{goes_to, move_items, block_of, back_items, copy_at, copy_or}
-use Rattle.asm_laws.proofs.Putting.{moves_are}
+use Rattle.asm_laws.specs.Copies.{put_into, goes_to, move_items, copy_items, copy_at, copy_or}
+use Rattle.asm_laws.specs.Live.{live_soon, ahead, asked_behind}
+use Rattle.asm_laws.proofs.Putting.{unless_is, moves_are, backs_are}
 use Rattle.asm_laws.proofs.InOne.{TakesWord, one_or_more_is, group_is, next_is}
 
 abbrev AreCode : List AsmItem → Type 0
@@ -151,40 +152,42 @@ module _ (W : Whole) (F : Frame) where
   one_or_more_code : (o : OpT Where) (c : NodesT Where) → AreCode (one_or_more W F o (in_one W F o c))
   one_or_more_code o c = one_or_more_is W F AreCode (λ v. Unit {0}) o c (λ t n e. (tt, tt, λ x y. tt)) (λ t k e. (tt, tt, λ x y. tt)) (op_code o) taking_code (λ p r i lt h. (fetch_code F p r, taking_code i h), λ r q i lr lq h. (tt, taking_code i h))
 
-  put_code : (y : Copying) (o : OpT Where) → AreCode (put_items W F y o)
-  put_code y (ConstO (Reg r) n) = (tt, tt)
-  put_code y (GlobalO (Reg r) k) = (tt, tt)
-  put_code y (LocalO (Reg r) k) = (tt, tt)
-  put_code y (MoveO (Reg r) p) = moves_code F (Reg (goes_to y r)) p
-  put_code y _ = tt
+  word_code : (y : Copying) (o : OpT Where) → AreCode (word_items W F y o)
+  word_code y (ConstO (Reg r) n) = (tt, tt)
+  word_code y (GlobalO (Reg r) k) = (tt, tt)
+  word_code y (LocalO (Reg r) k) = (tt, tt)
+  word_code y (MoveO (Reg r) p) = moves_code F (Reg (goes_to y r)) p
+  word_code y _ = tt
 
-  puts_code : (y : Copying) (c : NodesT Where) (k : ℕ) → AreCode (puts_items W F y c k)
-  puts_code y (Do o c) (suc k) = joined (put_items W F y o) (puts_items W F y c k) (put_code y o) (puts_code y c k)
-  puts_code y (Do o c) zero = tt
-  puts_code y Stop k = tt
-  puts_code y (Call t g args c) k = tt
-  puts_code y (Choose p a b c) k = tt
-  puts_code y (Block b c) k = tt
-  puts_code y (Loop b c) k = tt
-  puts_code y (Leave j c) k = tt
-  puts_code y (Again j c) k = tt
-  puts_code y (Return p c) k = tt
+  put_code : (y : Copying) (j : Bool) (o : OpT Where) → AreCode (put_items W F y j o)
+  put_code y j o = unless_is AreCode y j (put_into o) (word_items W F y o) tt (word_code y o)
+
+  puts_code : (y : Copying) (j : Bool) (c : NodesT Where) (k : ℕ) → AreCode (puts_items W F y j c k)
+  puts_code y j (Do o c) (suc k) = joined (put_items W F y j o) (puts_items W F y j c k) (put_code y j o) (puts_code y j c k)
+  puts_code y j (Do o c) zero = tt
+  puts_code y j Stop k = tt
+  puts_code y j (Call t g args c) k = tt
+  puts_code y j (Choose p a b c) k = tt
+  puts_code y j (Block b c) k = tt
+  puts_code y j (Loop b c) k = tt
+  puts_code y j (Leave i c) k = tt
+  puts_code y j (Again i c) k = tt
+  puts_code y j (Return p c) k = tt
 
   group_code : (o : OpT Where) (c : NodesT Where) → AreCode (group_items W F o c)
-  group_code o c = group_is W F AreCode o c (one_or_more_code o c) (λ k y e. joined (puts_items W F y (Do o c) k) (move_items y (Do o c)) (puts_code y (Do o c) k) (moves_are AreCode tt joined (λ t r. (tt, tt)) y (Do o c)))
+  group_code o c = group_is W F AreCode o c (one_or_more_code o c) (λ k y e. joined (puts_items W F y (asked_behind F.lasting c y.one) (Do o c) k) (move_items y (Do o c)) (puts_code y (asked_behind F.lasting c y.one) (Do o c) k) (moves_are AreCode tt joined (λ t r. (tt, tt)) y (Do o c)))
 
   next_code : (o : OpT Where) (c : NodesT Where) → AreCode (next_items W F o c)
   next_code o c =
       next_is W F AreCode (λ v. Unit {0}) o c (λ t n e. (tt, tt, λ x y. tt)) (λ t k e. (tt, tt, λ x y. tt)) taking_code (λ p r i lt h. (fetch_code F p r, taking_code i h), λ r q i lr lq h. (tt, taking_code i h))
       (λ u t a b e. (fetch_code F a 9, brought_code F b 10 _ (tt, tt))) (group_code o c)
 
-  copy_code : (f : Option ℕ) (y : Copying) → AreCode (item.Op (instr.Plain (block_of f)) ∷ back_items f y)
-  copy_code None y = (tt, (tt, (tt, tt)))
-  copy_code (Some f) y = (tt, (tt, (tt, (tt, (tt, tt)))))
+  copy_code : (y : Copying) (J : ℕ → Bool) → AreCode (copy_items y J)
+  copy_code y J = (tt, backs_are AreCode tt joined y (λ r q lt. (tt, tt)) (tt, tt) (tt, tt) y.from J)
 
-  copied_code : (y : Option Copying) (xs : List AsmItem) → AreCode xs → AreCode (copy_or y xs)
-  copied_code None xs h = h
-  copied_code (Some y) xs h = copy_code y.from y
+  copied_code : (y : Option Copying) (J : ℕ → Bool) (xs : List AsmItem) → AreCode xs → AreCode (copy_or y J xs)
+  copied_code None J xs h = h
+  copied_code (Some y) J xs h = copy_code y J
 
   call_code : (t : Option Where) (g : ℕ) (args : List Where) → AreCode (call_items W F t g args)
   call_code t g args =
@@ -257,8 +260,9 @@ module _ (W : Whole) (F : Frame) where
           let all = items_past W F out (inside (ends last c)) (ls ++ n ∷ []) (n + 2) b 0 in
           let part = part_items W F out (ls ++ n ∷ []) (n + 2) b in
           let test = test_items W F out (n + 2) b 0 in
-          joined (copy_or (copy_at done b) (looped (is_tested b) n all part test)) (items_past W F out last ls (n + (2 + labels b)) c 0)
-          (copied_code (copy_at done b) (looped (is_tested b) n all part test) (either (is_tested b) (rotated n part test) (enclosed n all) (rotated_code n part test (part_code b (ls ++ n ∷ []) (n + 2)) (test_code (n + 2) b 0)) (enclosed_code n all (past_code b 0 (inside (ends last c)) (ls ++ n ∷ []) (n + 2)))))
+          let asked = live_soon ahead F.lasting c in
+          joined (copy_or (copy_at done b) asked (looped (is_tested b) n all part test)) (items_past W F out last ls (n + (2 + labels b)) c 0)
+          (copied_code (copy_at done b) asked (looped (is_tested b) n all part test) (either (is_tested b) (rotated n part test) (enclosed n all) (rotated_code n part test (part_code b (ls ++ n ∷ []) (n + 2)) (test_code (n + 2) b 0)) (enclosed_code n all (past_code b 0 (inside (ends last c)) (ls ++ n ∷ []) (n + 2)))))
           (past_code c 0 last ls (n + (2 + labels b)))
       past_code (Leave k c) done last ls n = (tt, past_code c 0 last ls n)
       past_code (Again k c) done last ls n =

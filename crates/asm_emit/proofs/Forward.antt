@@ -24,8 +24,10 @@ use Rattle.asm_laws.specs.Names.{jump_label, function_label}
 use Rattle.asm_laws.specs.Labelled.{HasLabel}
 use Rattle.asm_laws.specs.Moves.{Move, in_order}
 use Rattle.asm_laws.specs.declared.copying.Copying.{Copying}
-use Rattle.asm_laws.specs.Copies.{goes_to, is_put, source, source_put, move_item, move_items}
-use Rattle.asm_laws.specs.Operations.{Frame, Whole, keep, fetches, keeps, keeps_some, hand, brings, takes, aim, lays, moves, changes, is_direct, in_place, apart, is_turned, turned_or_apart, computes, slot_arg, slot_args, moved_items, args_items, call_items, op_items, in_one, one_or_more, giving, put_items, puts_items, group_items, giving_left, next_items, next_more}
+use Rattle.asm_laws.specs.Copies.{put_into, goes_to, is_put, source, source_put, move_item, move_items}
+use Rattle.asm_laws.specs.Live.{asked_behind}
+use Rattle.asm_laws.proofs.Putting.{unless_is}
+use Rattle.asm_laws.specs.Operations.{Frame, Whole, keep, fetches, keeps, keeps_some, hand, brings, takes, aim, lays, moves, changes, is_direct, in_place, apart, is_turned, turned_or_apart, computes, slot_arg, slot_args, moved_items, args_items, call_items, op_items, in_one, one_or_more, giving, word_items, put_items, puts_items, group_items, giving_left, next_items, next_more}
 use Rattle.asm_laws.specs.Pieces.{register, is_in, turned}
 use Rattle.asm_laws.specs.Framing.{frame_made, frame_gone}
 use Rattle.asm_laws.specs.declared.behind.Behind.{Behind}
@@ -167,24 +169,27 @@ module _ (names : List (List ℕ)) (body : NodesT Where) where
     one_or_more_ahead o c later ok =
         one_or_more_is W F (λ xs. Ahead xs later) (λ v. Unit {0}) o c (λ t n e. (tt, tt, λ x y. tt)) (λ t k e. (tt, tt, λ x y. tt)) (op_ahead o later ok) (taking_ahead later) (λ p r i lt h. (fetch_ahead F p r _, taking_ahead later i h), λ r q i lr lq h. (tt, taking_ahead later i h))
 
-    put_go : (y : Copying) (o : OpT Where) (later : List AsmItem) → Ahead (put_items W F y o) later
-    put_go y (ConstO (Reg r) n) later = (tt, tt)
-    put_go y (GlobalO (Reg r) k) later = (tt, tt)
-    put_go y (LocalO (Reg r) k) later = (tt, tt)
-    put_go y (MoveO (Reg r) p) later = moves_ahead F (Reg (goes_to y r)) p later
-    put_go y _ later = tt
+    word_go : (y : Copying) (o : OpT Where) (later : List AsmItem) → Ahead (word_items W F y o) later
+    word_go y (ConstO (Reg r) n) later = (tt, tt)
+    word_go y (GlobalO (Reg r) k) later = (tt, tt)
+    word_go y (LocalO (Reg r) k) later = (tt, tt)
+    word_go y (MoveO (Reg r) p) later = moves_ahead F (Reg (goes_to y r)) p later
+    word_go y _ later = tt
 
-    puts_go : (y : Copying) (c : NodesT Where) (k : ℕ) (later : List AsmItem) → Ahead (puts_items W F y c k) later
-    puts_go y (Do o c) (suc k) later = ahead_append (put_items W F y o) (puts_items W F y c k) later (put_go y o _) (puts_go y c k later)
-    puts_go y (Do o c) zero later = tt
-    puts_go y Stop k later = tt
-    puts_go y (Call t g args c) k later = tt
-    puts_go y (Choose p a b c) k later = tt
-    puts_go y (Block b c) k later = tt
-    puts_go y (Loop b c) k later = tt
-    puts_go y (Leave j c) k later = tt
-    puts_go y (Again j c) k later = tt
-    puts_go y (Return p c) k later = tt
+    put_go : (y : Copying) (j : Bool) (o : OpT Where) (later : List AsmItem) → Ahead (put_items W F y j o) later
+    put_go y j o later = unless_is (λ xs. Ahead xs later) y j (put_into o) (word_items W F y o) tt (word_go y o later)
+
+    puts_go : (y : Copying) (j : Bool) (c : NodesT Where) (k : ℕ) (later : List AsmItem) → Ahead (puts_items W F y j c k) later
+    puts_go y j (Do o c) (suc k) later = ahead_append (put_items W F y j o) (puts_items W F y j c k) later (put_go y j o _) (puts_go y j c k later)
+    puts_go y j (Do o c) zero later = tt
+    puts_go y j Stop k later = tt
+    puts_go y j (Call t g args c) k later = tt
+    puts_go y j (Choose p a b c) k later = tt
+    puts_go y j (Block b c) k later = tt
+    puts_go y j (Loop b c) k later = tt
+    puts_go y j (Leave i c) k later = tt
+    puts_go y j (Again i c) k later = tt
+    puts_go y j (Return p c) k later = tt
 
     move_go : (b : Bool) (t r : ℕ) (later : List AsmItem) → Ahead (move_item b t r) later
     move_go true t r later = tt
@@ -198,7 +203,7 @@ module _ (names : List (List ℕ)) (body : NodesT Where) where
         ahead_append a (b ++ d) later (move_go (is_put y.to false c) 13 y.to _) (ahead_append b d later (move_go (source_put y.from false c) 12 (source y.from y) _) (move_go (is_put y.count false c) 11 y.count later))
 
     group_ahead : (o : OpT Where) (c : NodesT Where) (later : List AsmItem) → IsOp x m o → Ahead (group_items W F o c) later
-    group_ahead o c later ok = group_is W F (λ xs. Ahead xs later) o c (one_or_more_ahead o c later ok) (λ k y e. ahead_append (puts_items W F y (Do o c) k) (move_items y (Do o c)) later (puts_go y (Do o c) k _) (moves_go y (Do o c) later))
+    group_ahead o c later ok = group_is W F (λ xs. Ahead xs later) o c (one_or_more_ahead o c later ok) (λ k y e. ahead_append (puts_items W F y (asked_behind F.lasting c y.one) (Do o c) k) (move_items y (Do o c)) later (puts_go y (asked_behind F.lasting c y.one) (Do o c) k _) (moves_go y (Do o c) later))
 
     next_ahead : (o : OpT Where) (c : NodesT Where) (later : List AsmItem) → IsOp x m o → Ahead (next_items W F o c) later
     next_ahead o c later ok =

@@ -15,7 +15,7 @@ use Rattle.mid_code.specs.Functions.{op_before, NodeT, DoN, ChooseN, BlockN, Loo
 use Rattle.asm_laws.specs.declared.made.Made.{Made}
 use Rattle.asm_laws.specs.Spare.{operand}
 use Rattle.asm_laws.specs.Operations.{Frame, Whole, word_put, is_spared, with_known, in_one, put_items, puts_items, given_first, made_both, made_known, made_with, first_made, made_of, made_or}
-use Rattle.asm_emit.specs.inner.Listed.{front_put, front_summed, ahead_items, ahead_more, is_call, op_made, more_ahead, front_items, front_more, labels_due, led_ahead, led_behind, put_here, left_behind, puts_from, put_first, left_after, list_puts}
+use Rattle.asm_emit.specs.inner.Listed.{led_asked, front_put, front_summed, ahead_items, ahead_more, is_call, op_made, more_ahead, front_items, front_more, labels_due, led_ahead, led_behind, put_here, left_behind, puts_from, put_first, left_after, list_puts}
 
 pub none_due : (k : Option ℕ) → labels_due k 0 ≡ 0
 none_due None = refl
@@ -51,7 +51,7 @@ module _ (W : Whole) (F : Frame) where
   -- what stands ahead, and how much is done with it
   abbrev pub led_front : Option (ℕ × ℕ) → NodesT Where → NodesT Where → Option (ℕ × Copying) → List AsmItem
   led_front put first c None = ahead_items (front_summed W.globals F put c)
-  led_front put first c (Some (j, y)) = puts_items W F y first j ++ move_items y first
+  led_front put first c (Some (j, y)) = puts_items W F y (led_asked F.lasting c y.one) first j ++ move_items y first
 
   abbrev pub led_count : Option (ℕ × ℕ) → NodesT Where → Option (ℕ × Copying) → Option ℕ
   led_count put c None = ahead_more (front_summed W.globals F put c)
@@ -120,22 +120,22 @@ module _ (W : Whole) (F : Frame) where
 not_zero : (k : ℕ) → (suc k == 0) ≡ false
 not_zero k = grind (arith, nat_tests)
 
-module _ (W : Whole) (F : Frame) (y : Copying) where
-  plain_puts : (o : OpT Where) (c : NodesT Where) (k : ℕ) → puts_items W F y (Do o c) k ≡ cond (k == 0) [] (put_items W F y o) ++ puts_from (cond (k == 0) None (Some (k - 1))) (puts_items W F y c)
+module _ (W : Whole) (F : Frame) (y : Copying) (asked : Bool) where
+  plain_puts : (o : OpT Where) (c : NodesT Where) (k : ℕ) → puts_items W F y asked (Do o c) k ≡ cond (k == 0) [] (put_items W F y asked o) ++ puts_from (cond (k == 0) None (Some (k - 1))) (puts_items W F y asked c)
   plain_puts o c zero = refl
   plain_puts o c (suc k) =
       let b = not_zero k in
       let e : k ≡ suc k - 1 = omega arith in
-      ap (λ j. put_items W F y o ++ puts_items W F y c j) e ∙ (λ i. cond (sym b i) [] (put_items W F y o) ++ puts_from (cond (sym b i) None (Some (suc k - 1))) (puts_items W F y c))
+      ap (λ j. put_items W F y asked o ++ puts_items W F y asked c j) e ∙ (λ i. cond (sym b i) [] (put_items W F y asked o) ++ puts_from (cond (sym b i) None (Some (suc k - 1))) (puts_items W F y asked c))
 
-  call_puts : (c : NodesT Where) (k : ℕ) → [] ≡ cond (k == 0) [] ([]) ++ puts_from (cond (k == 0) None None) (puts_items W F y c)
+  call_puts : (c : NodesT Where) (k : ℕ) → [] ≡ cond (k == 0) [] ([]) ++ puts_from (cond (k == 0) None None) (puts_items W F y asked c)
   call_puts c k = go (k == 0)
     where
-      go : (b : Bool) → [] ≡ cond b [] ([]) ++ puts_from (cond b None None) (puts_items W F y c)
+      go : (b : Bool) → [] ≡ cond b [] ([]) ++ puts_from (cond b None None) (puts_items W F y asked c)
       go true = refl
       go false = refl
 
-  pub puts_on : (o : Op Where) (c : NodesT Where) (k : ℕ) → puts_items W F y (op_before o c) k ≡ put_here W F y o k ++ puts_from (left_behind o k) (puts_items W F y c)
+  pub puts_on : (o : Op Where) (c : NodesT Where) (k : ℕ) → puts_items W F y asked (op_before o c) k ≡ put_here W F y asked o k ++ puts_from (left_behind o k) (puts_items W F y asked c)
   puts_on (op.Const t word) c k = plain_puts (ConstO t word) c k
   puts_on (op.Null t) c k = plain_puts (NullO t) c k
   puts_on (op.Move t a) c k = plain_puts (MoveO t a) c k
@@ -158,7 +158,7 @@ module _ (W : Whole) (F : Frame) (y : Copying) where
   puts_on op.Wait c k = plain_puts WaitO c k
   puts_on op.Halt c k = plain_puts HaltO c k
 
-  node_puts : (x : NodeT Where) (c : NodesT Where) (k : ℕ) → puts_items W F y (before x c) k ≡ put_first W F y x k ++ puts_from (left_after x k) (puts_items W F y c)
+  node_puts : (x : NodeT Where) (c : NodesT Where) (k : ℕ) → puts_items W F y asked (before x c) k ≡ put_first W F y asked x k ++ puts_from (left_after x k) (puts_items W F y asked c)
   node_puts (DoN o) c k = puts_on o c k
   node_puts (ChooseN p a b) c k = refl
   node_puts (BlockN b) c k = refl
@@ -167,25 +167,29 @@ module _ (W : Whole) (F : Frame) (y : Copying) where
   node_puts (AgainN j) c k = refl
   node_puts (ReturnN p) c k = refl
 
-  puts_are : (xs : ListT Where) (k : ℕ) → puts_items W F y (joined xs) k ≡ list_puts W F y xs k
+  puts_are : (xs : ListT Where) (k : ℕ) → puts_items W F y asked (joined xs) k ≡ list_puts W F y asked xs k
   puts_are NoN k = refl
-  puts_are (MoreN x rest) k = let on : (j : ℕ) → puts_items W F y (joined rest) j ≡ list_puts W F y rest j = puts_are rest in node_puts x (joined rest) k ∙ (λ i. put_first W F y x k ++ puts_from (left_after x k) (λ j. on j i))
+  puts_are (MoreN x rest) k = let on : (j : ℕ) → puts_items W F y asked (joined rest) j ≡ list_puts W F y asked rest j = puts_are rest in node_puts x (joined rest) k ∙ (λ i. put_first W F y asked x k ++ puts_from (left_after x k) (λ j. on j i))
 
-  pub led_puts : (o : Op Where) (xs : ListT Where) (k : ℕ) → puts_items W F y (op_before o (joined xs)) k ≡ put_here W F y o k ++ puts_from (left_behind o k) (list_puts W F y xs)
-  led_puts o xs k = let on : (j : ℕ) → puts_items W F y (joined xs) j ≡ list_puts W F y xs j = puts_are xs in puts_on o (joined xs) k ∙ (λ i. put_here W F y o k ++ puts_from (left_behind o k) (λ j. on j i))
+  pub led_puts : (o : Op Where) (xs : ListT Where) (k : ℕ) → puts_items W F y asked (op_before o (joined xs)) k ≡ put_here W F y asked o k ++ puts_from (left_behind o k) (list_puts W F y asked xs)
+  led_puts o xs k = let on : (j : ℕ) → puts_items W F y asked (joined xs) j ≡ list_puts W F y asked xs j = puts_are xs in puts_on o (joined xs) k ∙ (λ i. put_here W F y asked o k ++ puts_from (left_behind o k) (λ j. on j i))
 
   -- the items of the first one are added, and then those of the others
-  pub led_all : (o : Op Where) (xs : ListT Where) (k n : ℕ) (a b d : List AsmItem) → b ≡ a ++ put_here W F y o k → left_behind o k ≡ Some n → d ≡ b ++ list_puts W F y xs n → d ≡ a ++ puts_items W F y (op_before o (joined xs)) k
+  pub led_all : (o : Op Where) (xs : ListT Where) (k n : ℕ) (a b d : List AsmItem) → b ≡ a ++ put_here W F y asked o k → left_behind o k ≡ Some n → d ≡ b ++ list_puts W F y asked xs n → d ≡ a ++ puts_items W F y asked (op_before o (joined xs)) k
   led_all o xs k n a b d first left more =
       more
-      ∙ ap (λ z. z ++ list_puts W F y xs n) first
-      ∙ append_assoc a (put_here W F y o k) (list_puts W F y xs n)
-      ∙ ap (λ z. a ++ (put_here W F y o k ++ puts_from z (list_puts W F y xs))) (sym left)
+      ∙ ap (λ z. z ++ list_puts W F y asked xs n) first
+      ∙ append_assoc a (put_here W F y asked o k) (list_puts W F y asked xs n)
+      ∙ ap (λ z. a ++ (put_here W F y asked o k ++ puts_from z (list_puts W F y asked xs))) (sym left)
       ∙ ap (λ z. a ++ z) (sym (led_puts o xs k))
 
 -- a block move and what comes behind it
-pub both_parts : (xs : List AsmItem) (y : Copying) → (xs ++ item.Op (instr.Plain (block_of y.from)) ∷ []) ++ back_items y.from y ≡ xs ++ copy_items y
-both_parts xs y = append_assoc xs (item.Op (instr.Plain (block_of y.from)) ∷ []) (back_items y.from y)
+pub both_parts : (xs : List AsmItem) (y : Copying) (J : ℕ → Bool) → (xs ++ item.Op (instr.Plain (block_of y.from)) ∷ []) ++ back_items y.from y J ≡ xs ++ copy_items y J
+both_parts xs y J = append_assoc xs (item.Op (instr.Plain (block_of y.from)) ∷ []) (back_items y.from y J)
+
+-- what puts back four registers
+pub four_parts : (xs a b c d : List AsmItem) → (((xs ++ a) ++ b) ++ c) ++ d ≡ xs ++ (a ++ (b ++ (c ++ d)))
+four_parts xs a b c d = append_assoc ((xs ++ a) ++ b) c d ∙ append_assoc (xs ++ a) b (c ++ d) ∙ append_assoc xs a (b ++ (c ++ d))
 
 -- what moves three words
 pub three_parts : (xs : List AsmItem) (y : Copying) (c : NodesT Where) → ((xs ++ move_item (is_put y.to false c) 13 y.to) ++ move_item (source_put y.from false c) 12 (source y.from y)) ++ move_item (is_put y.count false c) 11 y.count ≡ xs ++ move_items y c

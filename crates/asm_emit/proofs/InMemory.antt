@@ -9,17 +9,18 @@ use Rattle.asm_items.specs.Items.{Imm}
 use Rattle.mid_code.specs.declared.placed.Where.{Where}
 use Rattle.mid_code.specs.declared.node.Op.{Op}
 use Rattle.mid_code.specs.declared.node.Op.TheVariants as op
-use Rattle.mid_code.specs.Code.{OpT, ConstO, NullO, MoveO, OneO, TwoO, GlobalO, LocalO, LiteralO, CardO, StepO, ApartO, PtrTestO, LoadO, StoreO, FreshO, EndO, InO, OutO, WaitO, HaltO, NodesT, Do, Call, Leave}
+use Rattle.mid_code.specs.Code.{OpT, ConstO, NullO, MoveO, OneO, TwoO, GlobalO, LocalO, LiteralO, CardO, StepO, ApartO, PtrTestO, LoadO, StoreO, FreshO, EndO, InO, OutO, WaitO, HaltO, NodesT, Stop, Do, Call, Choose, Block, Loop, Leave, Again, Return}
 use Rattle.mid_code.specs.Functions.{op_before, NodeT, DoN, ChooseN, BlockN, LoopN, LeaveN, AgainN, ReturnN, ListT, NoN, MoreN, before, joined}
-use Rattle.asm_laws.specs.Operations.{Frame, Whole, op_items, in_one, one_or_more, more_of, call_items, hand, brings, led_items, led_more, group_items, group_more, giving, made_of, made_or, made_more}
+use Rattle.asm_laws.specs.Operations.{Frame, Whole, puts_items, op_items, in_one, one_or_more, more_of, call_items, hand, brings, led_items, led_more, group_items, group_more, giving, made_of, made_or, made_more}
 use Rattle.asm_laws.specs.declared.made.Made.{Made}
 use Rattle.asm_laws.specs.declared.behind.Behind.{Behind}
 use Rattle.asm_laws.specs.declared.behind.Behind.TheVariants.{Other, End, Turn}
 use Rattle.asm_laws.specs.inner.Emitted.{labels, enclosing, jump, alone, left_to, ends, is_stop, choice, enclosed, left_by, items_past, code_items, inside, is_end, again, looped, is_round, is_tested, part_items, test_items, jump_when}
 use Rattle.asm_laws.specs.declared.copying.Copying.{Copying}
-use Rattle.asm_laws.specs.Copies.{ends_here, lead, copy_at, copy_or}
+use Rattle.asm_laws.specs.Copies.{ends_here, lead, move_items, copy_at, copy_or}
+use Rattle.asm_laws.specs.Live.{live_soon, ahead, asked_behind}
 use Rattle.asm_laws.proofs.Leads.{copy_turn, fill_turn, copy_is}
-use Rattle.asm_emit.specs.inner.Listed.{left_in, node_labels, list_labels, is_none, do_items, ahead_items, ahead_more, front_items, front_more, onward, node_items, list_past, list_items, is_call, round_in, tested_in, part_labels, own_test, list_test, list_part, led_ahead, led_behind, more_ahead, copied_own}
+use Rattle.asm_emit.specs.inner.Listed.{left_in, node_labels, list_labels, is_none, do_items, ahead_items, ahead_more, front_items, front_more, onward, node_items, list_past, list_items, is_call, round_in, tested_in, part_labels, own_test, list_test, list_part, led_ahead, led_behind, more_ahead, asked, led_asked, copied_own}
 
 -- an operation before nodes is a node of its own, or a call
 op_parts : (Q : NodesT Where → NodesT Where → Type 0) → ((o : OpT Where) (c : NodesT Where) → Q c (Do o c)) → ((t : Option Where) (f : ℕ) (args : List Where) (c : NodesT Where) → Q c (Call t f args c)) → (o : Op Where) (c : NodesT Where) → Q c (op_before o c)
@@ -188,6 +189,22 @@ mutual
   list_counts NoN = refl
   list_counts (MoreN x rest) = let e = node_counts x (joined rest) in let f = list_counts rest in omega (arith, e, f)
 
+asked_is : (h : List Bool) (c : NodesT Where) → live_soon ahead h c ≡ asked h c
+unfolding asked
+asked_is h c = refl
+
+led_is : (h : List Bool) (c : NodesT Where) (r : ℕ) → asked_behind h c r ≡ led_asked h c r
+unfolding led_asked asked
+led_is h (Do o c) r = led_is h c r
+led_is h (Loop b c) r = refl
+led_is h Stop r = refl
+led_is h (Call t f args c) r = refl
+led_is h (Choose p a b c) r = refl
+led_is h (Block b c) r = refl
+led_is h (Leave k c) r = refl
+led_is h (Again k c) r = refl
+led_is h (Return p c) r = refl
+
 not_zero : (k : ℕ) → (suc k == 0) ≡ false
 not_zero k = grind (arith, nat_tests)
 
@@ -211,7 +228,7 @@ module _ (W : Whole) (F : Frame) (out : Option ℕ) where
     where
       led_are : (x : Option (ℕ × Copying)) → led_items W F o c x ++ items last ls n c (led_more W F o c x) ≡ led_ahead W F o c x ++ onward (led_behind W F o c x) (op_items W F o) (items last ls n c) (items last ls (n + 0) c 0)
       led_are None = done_are o (in_one W F o c) last ls n c
-      led_are (Some (j, y)) = refl
+      led_are (Some (j, y)) = let e = led_is F.lasting c y.one in λ i. (puts_items W F y (e i) (Do o c) j ++ move_items y (Do o c)) ++ items last ls n c j
 
       made_are : (x : Option (ℕ × Made)) → made_or F x (group_items W F o c) ++ items last ls n c (made_more x (group_more W F o c)) ≡ made_or F x (led_ahead W F o c (lead (Do o c))) ++ onward (more_ahead x (led_behind W F o c (lead (Do o c)))) (op_items W F o) (items last ls n c) (items last ls (n + 0) c 0)
       made_are None = led_are (lead (Do o c))
@@ -260,7 +277,7 @@ module _ (W : Whole) (F : Frame) (out : Option ℕ) where
     where
       led_test : (x : Option (ℕ × Copying)) → led_items W F o c x ++ tests to c (led_more W F o c x) ≡ led_ahead W F o c x ++ onward (led_behind W F o c x) (op_items W F o) (tests to c) (tests to c 0)
       led_test None = done_test o (in_one W F o c) to c
-      led_test (Some (j, y)) = refl
+      led_test (Some (j, y)) = let e = led_is F.lasting c y.one in λ i. (puts_items W F y (e i) (Do o c) j ++ move_items y (Do o c)) ++ tests to c j
 
       made_test : (x : Option (ℕ × Made)) → made_or F x (group_items W F o c) ++ tests to c (made_more x (group_more W F o c)) ≡ made_or F x (led_ahead W F o c (lead (Do o c))) ++ onward (more_ahead x (led_behind W F o c (lead (Do o c)))) (op_items W F o) (tests to c) (tests to c 0)
       made_test None = led_test (lead (Do o c))
@@ -314,7 +331,7 @@ module _ (W : Whole) (F : Frame) (out : Option ℕ) where
   part_op o ls n c = op_parts (λ c m. part_items W F out ls n m ≡ part_items W F out ls n c) (λ o c. refl) (λ t f args c. refl) o c
 
   mutual
-    node_are : (x : NodeT Where) (last : Behind) (ls : List ℕ) (n : ℕ) (c : NodesT Where) (k : ℕ) → items last ls n (before x c) k ≡ On last (before x c) k (copied_own k x (node_items W F out (ends last c) ls n x)) ls n (node_labels x) c
+    node_are : (x : NodeT Where) (last : Behind) (ls : List ℕ) (n : ℕ) (c : NodesT Where) (k : ℕ) → items last ls n (before x c) k ≡ On last (before x c) k (copied_own k x (asked F.lasting c) (node_items W F out (ends last c) ls n x)) ls n (node_labels x) c
     node_are (DoN o) last ls n c k = op_are o last ls n c k
     node_are (ChooseN p a b) last ls n c k =
         let la = list_counts a in
@@ -336,7 +353,8 @@ module _ (W : Whole) (F : Frame) (out : Option ℕ) where
         let all = past_are b (inside (ends last c)) (ls ++ n ∷ []) (n + 2) 0 in
         let part = part_are b (ls ++ n ∷ []) (n + 2) in
         let test = test_are (n + 2) b 0 in
-        λ i. copy_or (copy_at k (joined b)) (looped (te i) n (all i) (part i) (test i)) ++ items last ls (n + (2 + lb i)) c 0
+        let as_asked = asked_is F.lasting c in
+        λ i. copy_or (copy_at k (joined b)) (as_asked i) (looped (te i) n (all i) (part i) (test i)) ++ items last ls (n + (2 + lb i)) c 0
     node_are (LeaveN j) last ls n c k = ap (λ xs. jump (add (enclosing ls j) 1) ∷ xs) (nothing last ls n c)
     node_are (AgainN j) last ls n c k = ap (λ xs. again ls j (ends last c) ++ xs) (nothing last ls n c)
     node_are (ReturnN p) last ls n c zero = ap (λ xs. giving F p ++ (left_by F out (is_end (ends last c)) ++ xs)) (nothing last ls n c)
@@ -351,7 +369,7 @@ module _ (W : Whole) (F : Frame) (out : Option ℕ) where
         let on : (j : ℕ) → items last ls n (joined rest) j ≡ list_past W F out last ls n rest j = past_are rest last ls n in
         let anew = past_are rest last ls (n + node_labels x) 0 in
         let st = stops_alike rest in
-        node_are x last ls n (joined rest) k ∙ (λ i. front_items W F first k ++ onward (front_more W F first k) (copied_own k x (node_items W F out (cond (st i) last Other) ls n x)) (λ j. on j i) (anew i))
+        node_are x last ls n (joined rest) k ∙ (λ i. front_items W F first k ++ onward (front_more W F first k) (copied_own k x (asked F.lasting (joined rest)) (node_items W F out (cond (st i) last Other) ls n x)) (λ j. on j i) (anew i))
 
     part_are : (xs : ListT Where) (ls : List ℕ) (n : ℕ) → part_items W F out ls n (joined xs) ≡ list_part W F out ls n xs
     part_are NoN ls n = refl

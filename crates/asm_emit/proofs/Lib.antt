@@ -5,6 +5,7 @@ pub mod Joining
 pub mod Fronts
 pub mod LeadsBehind
 pub mod Sparing
+pub mod Exposing
 pub mod Coded
 pub mod Forward
 pub mod Agreeing

@@ -24,14 +24,16 @@ use Rattle.mid_code.specs.declared.placed.Where.TheVariants.{Reg, Slot}
 use Rattle.mid_code.specs.Code.{OpT, ConstO, NullO, MoveO, OneO, TwoO, GlobalO, LocalO, LiteralO, CardO, StepO, ApartO, PtrTestO, LoadO, StoreO, FreshO, EndO, InO, OutO, WaitO, HaltO, NodesT, Stop, Do, Call, Choose, Block, Loop, Leave, Again, Return, FunctionT, CodeT}
 use Rattle.mid_code.specs.Invariants.{AllOf, IsOp, AreNodes}
 use Rattle.asm_laws.specs.Moves.{Move, in_order}
-use Rattle.asm_laws.specs.Operations.{Frame, Whole, keep, fetches, keeps, keeps_some, hand, brings, takes, aim, lays, moves, changes, is_direct, in_place, apart, is_turned, turned_or_apart, computes, slot_arg, slot_args, moved_items, args_items, call_items, op_items, in_one, one_or_more, giving, start_frame, literal_items, literals_items, put_items, puts_items, group_items, giving_left, next_items, next_more}
+use Rattle.asm_laws.specs.Operations.{Frame, Whole, keep, fetches, keeps, keeps_some, hand, brings, takes, aim, lays, moves, changes, is_direct, in_place, apart, is_turned, turned_or_apart, computes, slot_arg, slot_args, moved_items, args_items, call_items, op_items, in_one, one_or_more, giving, start_frame, literal_items, literals_items, word_items, put_items, puts_items, group_items, giving_left, next_items, next_more}
 use Rattle.asm_laws.specs.Pieces.{register, is_in, turned}
 use Rattle.asm_laws.specs.Framing.{frame_made, frame_gone}
 use Rattle.asm_laws.specs.declared.behind.Behind.{Behind}
 use Rattle.asm_laws.specs.declared.behind.Behind.TheVariants.{Other, End, Turn}
 use Rattle.asm_laws.specs.inner.Emitted.{labels, enclosing, jump, jump_unless, mark, first_part, second_part, choice, alone, left_to, ends, jump_when, is_stop, enclosed, leaving, left_by, items_past, code_items, exit_items, function_items, functions_items, closing_items, start_items, program_items, inside, is_end, is_turn, again, rotated, looped, is_tested, part_items, test_items}
 use Rattle.asm_laws.specs.declared.copying.Copying.{Copying}
-use Rattle.asm_laws.specs.Copies.{goes_to, is_put, source, source_put, move_item, move_items, block_of, back_items, copy_at, copy_or}
+use Rattle.asm_laws.specs.Copies.{put_into, goes_to, is_put, source, source_put, move_item, move_items, copy_items, copy_at, copy_or}
+use Rattle.asm_laws.specs.Live.{live_soon, ahead, asked_behind}
+use Rattle.asm_laws.proofs.Putting.{unless_is, backs_are}
 use Rattle.asm_laws.proofs.InOne.{TakesWord, one_or_more_is, group_is, next_is}
 use Rattle.asm_emit.specs.inner.Words.{AreWords, TextsAreWords}
 use Rattle.asm_emit.proofs.ReadableLabels.{jump_named, literal_named, function_named}
@@ -221,24 +223,27 @@ module _ (x : CodeT Where) (W : Whole) (words : list_all is_word W.names ≡ tru
         one_or_more_is W F AllFine (λ v. v < 2 ^ 32) o c (λ t n e. (subst (IsOp x m) e ok, in_words 0 n, λ x y. sum_in_words x y)) (λ t k e. (addresses k, in_words 0 (get_or W.globals k 0), λ x y. sum_in_words x y)) (op_fine o ok) taking_fine
         (λ p r i lt h. (fetch_fine F p r lt, taking_fine i h), λ r q i lr lq h. ((lr, (lq, tt)), taking_fine i h))
 
-    put_fine : (y : Copying) (o : OpT Where) → IsOp x m o → AllFine (put_items W F y o)
-    put_fine y (ConstO (Reg r) n) ok = ((in_registers (goes_to y r), (ok, tt)), tt)
-    put_fine y (GlobalO (Reg r) k) ok = ((in_registers (goes_to y r), (addresses k, tt)), tt)
-    put_fine y (LocalO (Reg r) k) ok = ((in_registers (goes_to y r), ((omega arith, in_words _ F.size), tt)), tt)
-    put_fine y (MoveO (Reg r) p) ok = moves_fine F (Reg (goes_to y r)) p
-    put_fine y _ ok = tt
+    word_fine : (y : Copying) (o : OpT Where) → IsOp x m o → AllFine (word_items W F y o)
+    word_fine y (ConstO (Reg r) n) ok = ((in_registers (goes_to y r), (ok, tt)), tt)
+    word_fine y (GlobalO (Reg r) k) ok = ((in_registers (goes_to y r), (addresses k, tt)), tt)
+    word_fine y (LocalO (Reg r) k) ok = ((in_registers (goes_to y r), ((omega arith, in_words _ F.size), tt)), tt)
+    word_fine y (MoveO (Reg r) p) ok = moves_fine F (Reg (goes_to y r)) p
+    word_fine y _ ok = tt
 
-    puts_fine : (y : Copying) (c : NodesT Where) (k : ℕ) (bs : List Bool) → AreNodes x m bs c → AllFine (puts_items W F y c k)
-    puts_fine y (Do o c) (suc k) bs ok = join (put_items W F y o) (puts_items W F y c k) (put_fine y o ok.0) (puts_fine y c k bs ok.1)
-    puts_fine y (Do o c) zero bs ok = tt
-    puts_fine y Stop k bs ok = tt
-    puts_fine y (Call t g args c) k bs ok = tt
-    puts_fine y (Choose p a b c) k bs ok = tt
-    puts_fine y (Block b c) k bs ok = tt
-    puts_fine y (Loop b c) k bs ok = tt
-    puts_fine y (Leave j c) k bs ok = tt
-    puts_fine y (Again j c) k bs ok = tt
-    puts_fine y (Return p c) k bs ok = tt
+    put_fine : (y : Copying) (j : Bool) (o : OpT Where) → IsOp x m o → AllFine (put_items W F y j o)
+    put_fine y j o ok = unless_is AllFine y j (put_into o) (word_items W F y o) tt (word_fine y o ok)
+
+    puts_fine : (y : Copying) (j : Bool) (c : NodesT Where) (k : ℕ) (bs : List Bool) → AreNodes x m bs c → AllFine (puts_items W F y j c k)
+    puts_fine y j (Do o c) (suc k) bs ok = join (put_items W F y j o) (puts_items W F y j c k) (put_fine y j o ok.0) (puts_fine y j c k bs ok.1)
+    puts_fine y j (Do o c) zero bs ok = tt
+    puts_fine y j Stop k bs ok = tt
+    puts_fine y j (Call t g args c) k bs ok = tt
+    puts_fine y j (Choose p a b c) k bs ok = tt
+    puts_fine y j (Block b c) k bs ok = tt
+    puts_fine y j (Loop b c) k bs ok = tt
+    puts_fine y j (Leave i c) k bs ok = tt
+    puts_fine y j (Again i c) k bs ok = tt
+    puts_fine y j (Return p c) k bs ok = tt
 
     move_fine : (b : Bool) (t r : ℕ) → t < 16 → AllFine (move_item b t r)
     move_fine true t r lt = tt
@@ -252,7 +257,7 @@ module _ (x : CodeT Where) (W : Whole) (words : list_all is_word W.names ≡ tru
         join a (b ++ d) (move_fine (is_put y.to false c) 13 y.to (omega arith)) (join b d (move_fine (source_put y.from false c) 12 (source y.from y) (omega arith)) (move_fine (is_put y.count false c) 11 y.count (omega arith)))
 
     group_fine : (o : OpT Where) (c : NodesT Where) (bs : List Bool) → AreNodes x m bs (Do o c) → AllFine (group_items W F o c)
-    group_fine o c bs ok = group_is W F AllFine o c (one_or_more_fine o c ok.0) (λ k y e. join (puts_items W F y (Do o c) k) (move_items y (Do o c)) (puts_fine y (Do o c) k bs ok) (words_fine y (Do o c)))
+    group_fine o c bs ok = group_is W F AllFine o c (one_or_more_fine o c ok.0) (λ k y e. join (puts_items W F y (asked_behind F.lasting c y.one) (Do o c) k) (move_items y (Do o c)) (puts_fine y (asked_behind F.lasting c y.one) (Do o c) k bs ok) (words_fine y (Do o c)))
 
     next_fine : (o : OpT Where) (c : NodesT Where) (bs : List Bool) → AreNodes x m bs (Do o c) → AllFine (next_items W F o c)
     next_fine o c bs ok =
@@ -260,21 +265,16 @@ module _ (x : CodeT Where) (W : Whole) (words : list_all is_word W.names ≡ tru
         (λ p r i lt h. (fetch_fine F p r lt, taking_fine i h), λ r q i lr lq h. ((lr, (lq, tt)), taking_fine i h))
         (λ u t a b e. (fetch_fine F a 9 (omega arith), join (brings F b 10) (item.Op (instr.Two u 9 (src.Reg (hand b 10))) ∷ []) (brings_fine F b 10 (omega arith)) ((omega arith, (hand_fine b 10 (omega arith), tt)), tt))) (group_fine o c bs ok)
 
-    copy_fine : (f : Option ℕ) (y : Copying) → AllFine (item.Op (instr.Plain (block_of f)) ∷ back_items f y)
-    copy_fine None y =
+    copy_fine : (y : Copying) (J : ℕ → Bool) → AllFine (copy_items y J)
+    copy_fine y J =
         let to = in_registers y.to in
-        let count = in_registers y.count in
-        (tt, ((to, ((omega arith, omega arith), tt)), ((count, (omega arith, tt)), tt)))
-    copy_fine (Some f) y =
-        let to = in_registers y.to in
-        let from = in_registers f in
         let count = in_registers y.count in
         let cell = in_registers y.cell in
-        (tt, ((from, ((omega arith, omega arith), tt)), ((to, ((omega arith, omega arith), tt)), ((count, (omega arith, tt)), ((cell, (to, tt)), tt)))))
+        (tt, backs_are AllFine tt join y (λ r q lt. ((in_registers r, ((lt, omega arith), tt)), tt)) ((count, (omega arith, tt)), tt) ((cell, (to, tt)), tt) y.from J)
 
-    copied_fine : (y : Option Copying) (xs : List AsmItem) → AllFine xs → AllFine (copy_or y xs)
-    copied_fine None xs h = h
-    copied_fine (Some y) xs h = copy_fine y.from y
+    copied_fine : (y : Option Copying) (J : ℕ → Bool) (xs : List AsmItem) → AllFine xs → AllFine (copy_or y J xs)
+    copied_fine None J xs h = h
+    copied_fine (Some y) J xs h = copy_fine y J
 
     call_fine : (t : Option Where) (g : ℕ) (args : List Where) → AllFine (call_items W F t g args)
     call_fine t g args = join (args_items F (W.frames g) (W.params g) args) _ (args_fine F (W.frames g) (W.params g) args) ((function_named W.names g words, tt), some_fine F t)
@@ -326,8 +326,9 @@ module _ (x : CodeT Where) (W : Whole) (words : list_all is_word W.names ≡ tru
             let all = items_past W F out (inside (ends last c)) (ls ++ n ∷ []) (n + 2) b 0 in
             let part = part_items W F out (ls ++ n ∷ []) (n + 2) b in
             let test = test_items W F out (n + 2) b 0 in
-            join (copy_or (copy_at done b) (looped (is_tested b) n all part test)) _
-            (copied_fine (copy_at done b) (looped (is_tested b) n all part test) (either (is_tested b) (rotated n part test) (enclosed n all) (rotated_fine n part test (part_fine b (true ∷ bs) (ls ++ n ∷ []) (n + 2) ok.0) (test_fine (n + 2) b 0 (true ∷ bs) ok.0)) (enclosed_fine n all (past_fine b 0 (inside (ends last c)) (true ∷ bs) (ls ++ n ∷ []) (n + 2) ok.0))))
+            let asked = live_soon ahead F.lasting c in
+            join (copy_or (copy_at done b) asked (looped (is_tested b) n all part test)) _
+            (copied_fine (copy_at done b) asked (looped (is_tested b) n all part test) (either (is_tested b) (rotated n part test) (enclosed n all) (rotated_fine n part test (part_fine b (true ∷ bs) (ls ++ n ∷ []) (n + 2) ok.0) (test_fine (n + 2) b 0 (true ∷ bs) ok.0)) (enclosed_fine n all (past_fine b 0 (inside (ends last c)) (true ∷ bs) (ls ++ n ∷ []) (n + 2) ok.0))))
             (past_fine c 0 last bs ls (n + (2 + labels b)) ok.1)
         past_fine (Leave k c) done last bs ls n ok = ((jump_named (add (enclosing ls k) 1), tt), past_fine c 0 last bs ls n ok.1)
         past_fine (Again k c) done last bs ls n ok = join (again ls k (ends last c)) _ (either ((k == 0) && is_turn (ends last c)) [] (jump (enclosing ls k) ∷ []) tt ((jump_named (enclosing ls k), tt), tt)) (past_fine c 0 last bs ls n ok.1)

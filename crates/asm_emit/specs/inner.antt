@@ -1,4 +1,5 @@
 pub mod View
 pub mod Listed
 pub mod Spared
+pub mod Lasting
 pub mod Words

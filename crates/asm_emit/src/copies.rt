@@ -1,14 +1,19 @@
 // Loops that copy words or fill them.
-ghost use Rattle.std.specs.Prelude.{◌≡◌, ◌++◌, ◌∷◌, [], OnOk, cond};
+ghost use Rattle.std.specs.Prelude.{◌≡◌, ◌++◌, ◌∷◌, [], Some, None, OnOk, cond};
+ghost use Rattle.v32_isa.specs.declared.instruction.Mov.TheVariants.{RegReg, RegAtReg};
+ghost use Rattle.v32_isa.specs.declared.instruction.Instr.TheVariants as instr;
+ghost use Rattle.asm_items.specs.declared.item.AsmItem.TheVariants as item;
 ghost use Rattle.mid_code.specs.Functions.{op_before, nodes};
 ghost use Rattle.asm_laws.specs.Copies.{steps_by, ends_here, turns_here, steps_to, steps_both, steps_on, goes_round};
 ghost use Rattle.asm_laws.specs.Copies.{four_differ, other_differs, differ, is_copy};
 ghost use Rattle.asm_laws.specs.Copies.{copy_counted, copy_stored, copy_of, copy_after, is_from, is_moved, reads_moved, puts_ahead};
 ghost use Rattle.asm_laws.specs.Copies.{last_put, is_count, is_one, lead, copy_at};
-ghost use Rattle.asm_laws.specs.Copies.{block_of, last_item, back_items, copy_items};
-ghost use Rattle.asm_emit.specs.inner.Listed.{takes_moved, leads_behind};
+ghost use Rattle.asm_laws.specs.Copies.{block_of, last_item, when, back_items, copy_items};
+ghost use Rattle.asm_laws.specs.Pieces.{register};
+ghost use Rattle.asm_emit.specs.inner.Listed.{takes_moved, leads_behind, asked};
 
 use crate::hands::{op, register};
+use crate::live::is_asked;
 use crate::nodes::is_none;
 use asm_items::AsmItem;
 use asm_laws::Copying;
@@ -167,7 +172,7 @@ fn copy_stored(from: u32, cell: u32, xs: &[Node<Where>]) -> Option<Copying>
 
 /// The registers of a turn of a loop that copies words or fills them.
 #[tactic(auto, unfolding(asm_laws::specs::Copies::copy_of))]
-fn copy_of(xs: &[Node<Where>]) -> Option<Copying>
+pub(crate) fn copy_of(xs: &[Node<Where>]) -> Option<Copying>
     ensures { result ≡ copy_of (nodes xs.now) }
 {
     let (x, rest) = xs.split_first()?;
@@ -219,7 +224,7 @@ fn reads_moved(y: Copying, p: Where) -> bool
     ensures { result ≡ reads_moved y p }
 {
     match p {
-        Where::Reg(r) => is_moved(y, r),
+        Where::Reg(r) => is_moved(y, r) || r == y.one,
         Where::Slot(_) => false,
     }
 }
@@ -360,34 +365,97 @@ pub(crate) fn copy_at(done: u32, b: &[Node<Where>]) -> Option<Copying>
     if done == 0 { None } else { copy_of(b) }
 }
 
-/// Adds what puts into a register the address of the last word that was read or written, which one of the emitter's registers has gone past.
-fn put_last(out: &mut Vec<AsmItem>, address: u32, past: Reg) -> Result<(), Memory>
-    ensures { OnOk result (out.new.items ≡ out.old.items ++ last_item address past ∷ []) }
+/// Adds what puts into a register, where it is asked for, the address of the last word that was read or written, which one of the emitter's registers has gone
+/// past.
+fn put_last(out: &mut Vec<AsmItem>, is: bool, address: u32, past: Reg) -> Result<(), Memory>
+    ensures { OnOk result (out.new.items ≡ out.old.items ++ when is (last_item address past)) }
 {
-    op(
-        out,
-        Instr::Lea(register(address), past, Some(Either::Left(0xFFFF_FFFF))),
-    )
+    if is {
+        op(
+            out,
+            Instr::Lea(register(address), past, Some(Either::Left(0xFFFF_FFFF))),
+        )
+    } else {
+        Ok(())
+    }
 }
 
-/// Adds what puts into registers what the loop leaves in them.
-fn put_back(out: &mut Vec<AsmItem>, y: Copying) -> Result<(), Memory>
-    ensures { OnOk result (out.new.items ≡ out.old.items ++ back_items y.from y) }
+/// Adds what puts the count that is left into its register, where that is asked for.
+fn put_left(out: &mut Vec<AsmItem>, is: bool, y: Copying) -> Result<(), Memory>
+    ensures { OnOk result (out.new.items ≡ out.old.items ++ when is (item.Op (instr.Mov (RegReg (register y.count) 11)))) }
+{
+    if is {
+        op(out, Instr::Mov(Mov::RegReg(register(y.count), Reg::at(11))))
+    } else {
+        Ok(())
+    }
+}
+
+/// Adds what puts the last word into its register, where that is asked for.
+fn put_cell(out: &mut Vec<AsmItem>, is: bool, y: Copying) -> Result<(), Memory>
+    ensures { OnOk result (out.new.items ≡ out.old.items ++ when is (item.Op (instr.Mov (RegAtReg (register y.cell) (register y.to))))) }
+{
+    if is {
+        op(
+            out,
+            Instr::Mov(Mov::RegAtReg(register(y.cell), register(y.to))),
+        )
+    } else {
+        Ok(())
+    }
+}
+
+/// Adds what puts into registers that are asked for before these nodes what a loop leaves in them that fills words.
+#[tactic(auto, using(crate::proofs::Fronts::two_parts))]
+fn put_filled(
+    out: &mut Vec<AsmItem>,
+    y: Copying,
+    lasting: &[bool],
+    rest: &[Node<Where>],
+) -> Result<(), Memory>
+    ensures { OnOk result (out.new.items ≡ out.old.items ++ back_items None y (asked lasting.now (nodes rest.now))) }
+{
+    put_last(out, is_asked(lasting, rest, y.to), y.to, Reg::at(13))?;
+    put_left(out, is_asked(lasting, rest, y.count), y)?;
+    Ok(())
+}
+
+/// The same of a loop that copies words from an address.
+#[tactic(auto, using(crate::proofs::Fronts::four_parts))]
+fn put_copied(
+    out: &mut Vec<AsmItem>,
+    from: u32,
+    y: Copying,
+    lasting: &[bool],
+    rest: &[Node<Where>],
+) -> Result<(), Memory>
+    ensures { OnOk result (out.new.items ≡ out.old.items ++ back_items (Some from) y (asked lasting.now (nodes rest.now))) }
+{
+    let cell = is_asked(lasting, rest, y.cell);
+    put_last(out, is_asked(lasting, rest, from), from, Reg::at(12))?;
+    put_last(
+        out,
+        is_asked(lasting, rest, y.to) || cell,
+        y.to,
+        Reg::at(13),
+    )?;
+    put_left(out, is_asked(lasting, rest, y.count), y)?;
+    put_cell(out, cell, y)?;
+    Ok(())
+}
+
+/// The same of either loop.
+fn put_back(
+    out: &mut Vec<AsmItem>,
+    y: Copying,
+    lasting: &[bool],
+    rest: &[Node<Where>],
+) -> Result<(), Memory>
+    ensures { OnOk result (out.new.items ≡ out.old.items ++ back_items y.from y (asked lasting.now (nodes rest.now))) }
 {
     match y.from {
-        None => {
-            put_last(out, y.to, Reg::at(13))?;
-            op(out, Instr::Mov(Mov::RegReg(register(y.count), Reg::at(11))))
-        }
-        Some(from) => {
-            put_last(out, from, Reg::at(12))?;
-            put_last(out, y.to, Reg::at(13))?;
-            op(out, Instr::Mov(Mov::RegReg(register(y.count), Reg::at(11))))?;
-            op(
-                out,
-                Instr::Mov(Mov::RegAtReg(register(y.cell), register(y.to))),
-            )
-        }
+        None => put_filled(out, y, lasting, rest),
+        Some(from) => put_copied(out, from, y, lasting, rest),
     }
 }
 
@@ -400,12 +468,17 @@ fn block_of(y: Copying) -> Plain
     }
 }
 
-/// Adds the block move or fill, and that.
+/// Adds the block move or fill, and what puts registers back that are asked for before the nodes behind it, where the first registers last, so many.
 #[tactic(auto, using(crate::proofs::Fronts::both_parts))]
-pub(crate) fn put_copy(out: &mut Vec<AsmItem>, y: Copying) -> Result<(), Memory>
-    ensures { OnOk result (out.new.items ≡ out.old.items ++ copy_items y) }
+pub(crate) fn put_copy(
+    out: &mut Vec<AsmItem>,
+    y: Copying,
+    lasting: &[bool],
+    rest: &[Node<Where>],
+) -> Result<(), Memory>
+    ensures { OnOk result (out.new.items ≡ out.old.items ++ copy_items y (asked lasting.now (nodes rest.now))) }
 {
     op(out, Instr::Plain(block_of(y)))?;
-    put_back(out, y)?;
+    put_back(out, y, lasting, rest)?;
     Ok(())
 }

@@ -2,14 +2,15 @@
 ghost use Rattle.std.specs.Prelude.{◌≡◌, ◌++◌, OnOk, IfOk, map, false};
 ghost use Rattle.mid_code.specs.Code.{Stop};
 ghost use Rattle.mid_code.specs.Functions.{op_before, node, nodes, listed};
-ghost use Rattle.asm_laws.specs.Copies.{goes_to, is_put, source, source_put, move_item, move_items};
+ghost use Rattle.asm_laws.specs.Copies.{is_left, goes_to, is_put, source, source_put, move_item, move_items};
 ghost use Rattle.asm_laws.specs.Operations.{puts_items};
-ghost use Rattle.asm_emit.specs.inner.Listed.{front_there, put_here, left_behind, list_puts};
+ghost use Rattle.asm_emit.specs.inner.Listed.{front_into, front_words, front_there, led_asked, put_here, left_behind, list_puts};
 ghost use Rattle.asm_emit.specs.inner.View.{frame, whole};
 
 use crate::ahead::is_call;
 use crate::copies::is_from;
 use crate::hands::{aim, op, register};
+use crate::live::led_asked;
 use crate::pieces::{moves, sets};
 use crate::scope::{Around, Scope, at_or, local_word};
 use asm_items::AsmItem;
@@ -112,14 +113,14 @@ fn put_moves(
 }
 
 /// Adds what puts the word of an operation where it goes.
-fn put_there(
+fn put_word(
     out: &mut Vec<AsmItem>,
     w: &Around<'_>,
     s: &Scope<'_>,
     y: Copying,
     o: &Op<Where>,
 ) -> Result<(), Memory>
-    ensures { OnOk result (out.new.items ≡ out.old.items ++ front_there (whole w.now) (frame s.now) y (op_before o.now Stop)) }
+    ensures { OnOk result (out.new.items ≡ out.old.items ++ front_words (whole w.now) (frame s.now) y (op_before o.now Stop)) }
 {
     match o {
         Op::Const(Where::Reg(r), n) => sets(out, s, Where::Reg(goes_to(y, *r)), Either::Left(*n)),
@@ -139,22 +140,66 @@ fn put_there(
     }
 }
 
+/// The register into which an operation puts a word that takes no more than one instruction.
+fn put_into(o: &Op<Where>) -> Option<u32>
+    ensures { result ≡ front_into (op_before o.now Stop) }
+{
+    match o {
+        Op::Const(Where::Reg(r), _) => Some(*r),
+        Op::Global(Where::Reg(r), _) => Some(*r),
+        Op::Local(Where::Reg(r), _) => Some(*r),
+        Op::Move(Where::Reg(r), _) => Some(*r),
+        _ => None,
+    }
+}
+
+/// Whether no word is put into a register: that of the 1, where it is not asked for behind the loop.
+fn is_left(y: Copying, asked: bool, r: u32) -> bool
+    ensures { result ≡ is_left y asked r }
+{
+    r == y.one && !asked
+}
+
+/// Adds what puts the word of an operation where it goes, but for one that is left.
+fn put_there(
+    out: &mut Vec<AsmItem>,
+    w: &Around<'_>,
+    s: &Scope<'_>,
+    y: Copying,
+    asked: bool,
+    o: &Op<Where>,
+) -> Result<(), Memory>
+    ensures { OnOk result (out.new.items ≡ out.old.items ++ front_there (whole w.now) (frame s.now) y asked (op_before o.now Stop)) }
+{
+    match put_into(o) {
+        Some(r) => {
+            if is_left(y, asked, r) {
+                Ok(())
+            } else {
+                put_word(out, w, s, y, o)
+            }
+        }
+        None => put_word(out, w, s, y, o),
+    }
+}
+
 /// The same where so many are left; how many are left behind it.
 fn put_here(
     out: &mut Vec<AsmItem>,
     w: &Around<'_>,
     s: &Scope<'_>,
     y: Copying,
+    asked: bool,
     o: &Op<Where>,
     left: u32,
 ) -> Result<Option<u32>, Memory>
-    ensures items { OnOk result (out.new.items ≡ out.old.items ++ put_here (whole w.now) (frame s.now) y o.now left) }
+    ensures items { OnOk result (out.new.items ≡ out.old.items ++ put_here (whole w.now) (frame s.now) y asked o.now left) }
     ensures left { IfOk result (λ k. k ≡ left_behind o.now left) }
 {
     if left == 0 {
         Ok(None)
     } else {
-        put_there(out, w, s, y, o)?;
+        put_there(out, w, s, y, asked, o)?;
         Ok(if is_call(o) { None } else { Some(left - 1) })
     }
 }
@@ -165,15 +210,16 @@ fn put_words(
     w: &Around<'_>,
     s: &Scope<'_>,
     y: Copying,
+    asked: bool,
     xs: &[Node<Where>],
     count: u32,
 ) -> Result<(), Memory>
-    ensures { OnOk result (out.new.items ≡ out.old.items ++ list_puts (whole w.now) (frame s.now) y (listed (map node xs.now)) count) }
+    ensures { OnOk result (out.new.items ≡ out.old.items ++ list_puts (whole w.now) (frame s.now) y asked (listed (map node xs.now)) count) }
 {
     let mut left = count;
     for x in xs {
         match x {
-            Node::Do(o) => match put_here(out, w, s, y, o, left)? {
+            Node::Do(o) => match put_here(out, w, s, y, asked, o, left)? {
                 Some(n) => left = n,
                 None => return Ok(()),
             },
@@ -190,15 +236,16 @@ fn put_led(
     w: &Around<'_>,
     s: &Scope<'_>,
     y: Copying,
+    asked: bool,
     o: &Op<Where>,
     rest: &[Node<Where>],
     count: u32,
 ) -> Result<(), Memory>
-    ensures { OnOk result (out.new.items ≡ out.old.items ++ puts_items (whole w.now) (frame s.now) y (op_before o.now (nodes rest.now)) count) }
+    ensures { OnOk result (out.new.items ≡ out.old.items ++ puts_items (whole w.now) (frame s.now) y asked (op_before o.now (nodes rest.now)) count) }
 {
-    match put_here(out, w, s, y, o, count)? {
+    match put_here(out, w, s, y, asked, o, count)? {
         Some(n) => {
-            put_words(out, w, s, y, rest, n)?;
+            put_words(out, w, s, y, asked, rest, n)?;
             Ok(())
         }
         None => Ok(()),
@@ -216,10 +263,12 @@ pub(crate) fn put_group(
     rest: &[Node<Where>],
     count: u32,
 ) -> Result<(), Memory>
-    ensures { OnOk result (out.new.items ≡ out.old.items ++ (puts_items (whole w.now) (frame s.now) y (op_before o.now (nodes rest.now)) count
+    ensures { OnOk result (out.new.items ≡ out.old.items ++ (puts_items (whole w.now) (frame s.now) y
+        (led_asked s.now.lasting.now (nodes rest.now) y.one) (op_before o.now (nodes rest.now)) count
         ++ move_items y (op_before o.now (nodes rest.now)))) }
 {
-    put_led(out, w, s, y, o, rest, count)?;
+    let asked = led_asked(s.lasting, rest, y.one);
+    put_led(out, w, s, y, asked, o, rest, count)?;
     put_moves(out, y, o, rest)?;
     Ok(())
 }

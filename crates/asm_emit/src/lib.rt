@@ -11,6 +11,7 @@ mod copies;
 mod framing;
 mod hands;
 mod leading;
+mod live;
 mod moving;
 mod names;
 mod nodes;

@@ -8,7 +8,7 @@ ghost use Rattle.asm_laws.specs.inner.Emitted.{labels, enclosing, jump, jump_unl
 ghost use Rattle.asm_laws.specs.inner.Emitted.{leaving, left_by, code_items, inside, is_end, is_turn, again, rotated};
 ghost use Rattle.asm_emit.specs.inner.Listed.{left_in, ends_in, node_labels, list_labels, node_items, list_past};
 ghost use Rattle.asm_emit.specs.inner.Listed.{is_none, is_again, round_in, tested_in, is_operation, turn_labels, part_labels};
-ghost use Rattle.asm_emit.specs.inner.Listed.{copied_own, own_test, list_test, list_part, turn_items};
+ghost use Rattle.asm_emit.specs.inner.Listed.{asked, copied_own, own_test, list_test, list_part, turn_items};
 ghost use Rattle.asm_emit.specs.inner.View.{frame, whole};
 
 use crate::ahead::{behind, is_call, put_ahead};
@@ -579,7 +579,7 @@ fn put_node(
     }
 }
 
-/// Adds the own items of a node, where so many operations in front are done already; the number of the next label.
+/// Adds the own items of a node with these nodes behind it, where so many operations in front are done already; the number of the next label.
 #[cycle(items)]
 #[tactic(auto, using(crate::proofs::InMemory::copied_labels))]
 fn put_own(
@@ -589,18 +589,20 @@ fn put_own(
     ls: &mut Vec<u32>,
     n: u32,
     x: &Node<Where>,
+    rest: &[Node<Where>],
     done: u32,
 ) -> Result<u32, Memory>
     requires fits { n + node_labels (node x.now) < 2 ^ 32 - 1 }
     ensures items { OnOk result (out.new.items ≡ out.old.items
-        ++ copied_own done (node x.now) (node_items (whole w.now.around) (frame w.now.scope) w.now.end last ls.old.items n (node x.now))) }
+        ++ copied_own done (node x.now) (asked w.now.scope.lasting.now (nodes rest.now))
+        (node_items (whole w.now.around) (frame w.now.scope) w.now.end last ls.old.items n (node x.now))) }
     ensures labels { OnOk result (ls.new.items ≡ ls.old.items) }
     ensures next { IfOk result (λ m. m ≡ n + node_labels (node x.now)) }
 {
     match x {
         Node::Loop(b) => match copy_at(done, b.as_slice()) {
             Some(y) => {
-                put_copy(out, y)?;
+                put_copy(out, y, w.scope.lasting, rest)?;
                 Ok(n + 4)
             }
             None => put_loop(out, w, last, ls, n, b.as_slice()),
@@ -634,7 +636,7 @@ fn put_nodes(
             Some(more) => done = more,
             None => {
                 let behind = ends_in(last, rest);
-                next = put_own(out, w, behind, ls, next, x, done)?;
+                next = put_own(out, w, behind, ls, next, x, rest, done)?;
                 done = 0;
             }
         }

@@ -9,10 +9,12 @@ ghost use Rattle.asm_laws.specs.inner.Emitted.{labels, labels_of, functions_labe
 ghost use Rattle.asm_laws.specs.inner.Emitted.{start_items, closing_items, program_items};
 ghost use Rattle.asm_emit.specs.EmittedFrom.{CanBeEmitted, IsEmitted};
 ghost use Rattle.asm_emit.specs.inner.Spared.{held_all};
+ghost use Rattle.asm_emit.specs.inner.Lasting.{lasting_all};
 ghost use Rattle.asm_emit.specs.inner.View.{frame, whole, whole_of_parts, wrapped_addresses};
 
 use crate::framing::{put_frame_gone, put_frame_made};
 use crate::hands::op;
+use crate::live::lasting_by_each;
 use crate::names::{function_label, literal_label};
 use crate::nodes::{put_body, put_mark};
 use crate::scope::{Around, Scope, scope_at};
@@ -125,6 +127,7 @@ fn put_start(
         size: 1_000_000,
         depth: 0,
         registers: 9,
+        lasting: &[true, true, true, true, true, true, true, true, true],
     };
     let next = put_body(alloc, out, w, &s, Some(0), 1, body)?;
     put_closing(alloc, out, w, main)?;
@@ -197,16 +200,18 @@ fn items_of(
     requires few { length (code of.now).functions < 2 ^ 32 - 1 }
     requires texts { length (code of.now).literals < 2 ^ 32 - 1 }
     ensures { IfOk result (λ v. v.items ≡ program_items
-        (whole_of_parts (code of.now).functions (map spots at.now) sizes.now (held_all (code of.now).functions) names.now
-        (wrapped_addresses 0 (code of.now).globals)) (code of.now)) }
+        (whole_of_parts (code of.now).functions (map spots at.now) sizes.now (held_all (code of.now).functions)
+        (lasting_all (code of.now).functions) names.now (wrapped_addresses 0 (code of.now).globals)) (code of.now)) }
 {
     let registers = held_by_each(alloc, of.functions.as_slice())?;
+    let lasting = lasting_by_each(alloc, of.functions.as_slice())?;
     let globals = addresses(alloc, of.globals.as_slice())?;
     let w = Around {
         functions: of.functions.as_slice(),
         spots: at,
         sizes,
         registers: registers.as_slice(),
+        lasting: lasting.as_slice(),
         names,
         globals: globals.as_slice(),
     };

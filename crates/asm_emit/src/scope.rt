@@ -1,6 +1,7 @@
 // What the emitter knows of the code around an operation.
 ghost use Rattle.std.specs.Prelude.{◌≡◌, get_or, map, []};
 ghost use Rattle.kit_base.specs.Word.{sub};
+ghost use Rattle.asm_laws.specs.Live.{all_last};
 ghost use Rattle.asm_laws.specs.Operations.{word_at, slot_word, local_word, arg_word};
 ghost use Rattle.mid_code.specs.Functions.{function};
 ghost use Rattle.mid_code.specs.View.{spots};
@@ -20,6 +21,8 @@ pub struct Scope<'a> {
     pub depth: u32,
     /// How many registers, from the first one on, hold places between operations: 9, or 8 where register 8 is spare.
     pub registers: u32,
+    /// Which of the first nine last from one stretch of nodes to the next, where block moves ask.
+    pub lasting: &'a [bool],
 }
 
 /// The functions of the program with their frames and names, and the addresses of the globals.
@@ -29,6 +32,7 @@ pub struct Around<'a> {
     pub spots: &'a [Spots],
     pub sizes: &'a [u32],
     pub registers: &'a [u32],
+    pub lasting: &'a [Vec<bool>],
     pub names: &'a [Name],
     pub globals: &'a [u32],
 }
@@ -87,6 +91,22 @@ fn locals_at(all: &[Spots], g: u32) -> &[u32]
     }
 }
 
+/// All registers of places.
+fn all_last() -> &'static [bool]
+    ensures { result.now ≡ all_last }
+{
+    &[true, true, true, true, true, true, true, true, true]
+}
+
+fn lasting_at(all: &[Vec<bool>], g: u32) -> &[bool]
+    ensures { result.now ≡ get_or (map (λ v. v.items) all.now) g all_last }
+{
+    match all.get(g as usize) {
+        Some(v) => v.as_slice(),
+        None => all_last(),
+    }
+}
+
 /// The frame of a function.
 pub(crate) fn scope_at<'a>(w: &Around<'a>, g: u32) -> Scope<'a>
     ensures { frame result ≡ (whole w.now).frames g }
@@ -98,6 +118,7 @@ pub(crate) fn scope_at<'a>(w: &Around<'a>, g: u32) -> Scope<'a>
         size,
         depth: size,
         registers: at_or(w.registers, g, 8),
+        lasting: lasting_at(w.lasting, g),
     }
 }
 

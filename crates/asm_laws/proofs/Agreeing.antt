@@ -20,6 +20,7 @@ use Rattle.obj_mem.specs.declared.cell.Cell.TheVariants.{Unwritten, Num}
 use Rattle.obj_mem.specs.Objects.{ObjectT, object_at, cell_at}
 use Rattle.obj_mem.specs.Runs.{Ending, Halted, Fault, Starved, Stray, Deep, OutOfBound, global_cells}
 use Rattle.mid_code.specs.declared.placed.Where.{Where}
+use Rattle.mid_code.specs.Code.{Stop}
 use Rattle.mid_code.specs.Meaning.{Did, On, Ends, Res, Next, Leaves, Repeats, Returns, Over, call_done, did, called}
 use Rattle.mid_code.specs.Meaning as meaning
 use Rattle.mid_code.specs.States.{State, spent, registers_and_slots, function_at, begun, if_room}
@@ -33,11 +34,13 @@ use Rattle.asm_laws.specs.Addresses.{having, Held}
 use Rattle.asm_laws.proofs.Stepping.{line_effect, readable_word}
 use Rattle.asm_laws.specs.Holds.{Setting, sizes, Fits, Ctx, Lives, Stands}
 use Rattle.obj_mem.specs.Stores.{has_room}
-use Rattle.asm_laws.specs.Calling.{Mach, Given, ExitAt, EndedIn, lang, holder, shapes}
+use Rattle.asm_laws.specs.Calling.{Mach, Given, ExitAt, EndedIn, Like, live_at, lang, live_holder, shapes}
+use Rattle.asm_laws.proofs.Likeness.{same_weaker}
+use Rattle.asm_laws.proofs.LiveParts.{like_self}
+use Rattle.asm_laws.proofs.LiveSims.{call_like}
 use Rattle.asm_laws.specs.Linked.{Linked, first_context, first_words}
 use Rattle.asm_laws.proofs.First.{cell_wide}
 use Rattle.asm_laws.proofs.Words.{readable_in}
-use Rattle.asm_laws.proofs.Calls.{call_sim}
 use Rattle.asm_laws.proofs.Whole.{parts, follows}
 
 cell_of_slice : (cs : List Cell) (i x : ℕ) → slice_get cs i ≡ Some (Num x) → (i < length cs) × (get_or cs i Unwritten ≡ Num x)
@@ -108,6 +111,10 @@ module _ (S : Setting) (fits : Fits S) where
         ap (λ z. word_at z (0x30000000 + i)) e ∙ ap (λ z. word_at m (z + i)) (sym k.1) ∙ fixed_word t m en (length S.code.globals + length S.code.literals) i x k.0 d.0 d.1;
   }
 
+  -- where the machine holds what is live
+  keeps_live : (t : State Where) (f : Ending) (r : runs.Run) (m : machine.State) → r.state ≡ m → (live_holder S).E t m → KeepsWords S.whole.globals (run_of S.code (final f t.world)) r
+  keeps_live t f r m e (u, q, en) = subst (λ w. KeepsWords S.whole.globals (run_of S.code (final f w)) r) q (keeps u f r m e en)
+
   -- steps before
   record Pre (m0 : machine.State) (answers : List ℕ) (b : Begin) (m1 : machine.State) : Type 0 where
     steps : ℕ
@@ -120,38 +127,38 @@ module _ (S : Setting) (fits : Fits S) where
     abbrev Shown : Final → Type 0
     Shown e = (steps : ℕ) × Matches S.whole.globals n steps (run_of S.code e) (run steps m0 answers) × (e.end ≢ Stray → steps ≤ 1 * e.world.work + 64) × Nested steps [] m0 answers
 
-    ran_stopped : (b : Begin) (m1 : machine.State) (t : State Where) (how : runs.End) (p : Pre m0 answers b m1) (s : Stopped (holder S) m1 b t how) → run (p.steps + s.steps) m0 answers ≡ record { events = p.made ++ s.made; end = how; state = s.to }
+    ran_stopped : (b : Begin) (m1 : machine.State) (t : State Where) (how : runs.End) (p : Pre m0 answers b m1) (s : Stopped (live_holder S) m1 b t how) → run (p.steps + s.steps) m0 answers ≡ record { events = p.made ++ s.made; end = how; state = s.to }
     ran_stopped b m1 t how p s =
         let e : s.steps ≡ s.steps + 0 = omega arith in
         p.by.runs s.steps ∙ ap (λ k. before p.made (run k m1 b.answers)) e ∙ ap (before p.made) (s.by 0)
 
-    ran_going : (b : Begin) (m1 : machine.State) (t : State Where) (k : ℕ) (p : Pre m0 answers b m1) (s : Going (holder S) m1 b t k) → run (p.steps + s.steps) m0 answers ≡ record { events = p.made ++ (s.made ++ []); end = runs.Going; state = s.to }
+    ran_going : (b : Begin) (m1 : machine.State) (t : State Where) (k : ℕ) (p : Pre m0 answers b m1) (s : Going (live_holder S) m1 b t k) → run (p.steps + s.steps) m0 answers ≡ record { events = p.made ++ (s.made ++ []); end = runs.Going; state = s.to }
     ran_going b m1 t k p s =
         let e : s.steps ≡ s.steps + 0 = omega arith in
         p.by.runs s.steps ∙ ap (λ j. before p.made (run j m1 b.answers)) e ∙ ap (before p.made) (s.by 0) ∙ ap (λ r. before p.made (before s.made r)) (run_none s.to s.left)
 
-    stopped_events : (b : Begin) (m1 : machine.State) (t : State Where) (how : runs.End) (p : Pre m0 answers b m1) (s : Stopped (holder S) m1 b t how) → (run (p.steps + s.steps) m0 answers).events ≡ t.world.events
+    stopped_events : (b : Begin) (m1 : machine.State) (t : State Where) (how : runs.End) (p : Pre m0 answers b m1) (s : Stopped (live_holder S) m1 b t how) → (run (p.steps + s.steps) m0 answers).events ≡ t.world.events
     stopped_events b m1 t how p s = ap (λ r. r.events) (ran_stopped b m1 t how p s) ∙ ap (λ es. es ++ s.made) (sym p.events) ∙ sym s.events
 
-    going_events : (b : Begin) (m1 : machine.State) (t : State Where) (k : ℕ) (p : Pre m0 answers b m1) (s : Going (holder S) m1 b t k) → (run (p.steps + s.steps) m0 answers).events ≡ t.world.events
+    going_events : (b : Begin) (m1 : machine.State) (t : State Where) (k : ℕ) (p : Pre m0 answers b m1) (s : Going (live_holder S) m1 b t k) → (run (p.steps + s.steps) m0 answers).events ≡ t.world.events
     going_events b m1 t k p s = ap (λ r. r.events) (ran_going b m1 t k p s) ∙ ap (λ es. p.made ++ es) (append-nil s.made) ∙ ap (λ es. es ++ s.made) (sym p.events) ∙ sym s.events
 
-    shown_final : (b : Begin) (m1 : machine.State) (f : Ending) (t : State Where) → Pre m0 answers b m1 → follow.Final (holder S) n m1 b f t → Shown (final f t.world)
+    shown_final : (b : Begin) (m1 : machine.State) (f : Ending) (t : State Where) → Pre m0 answers b m1 → follow.Final (live_holder S) n m1 b f t → Shown (final f t.world)
     shown_final b m1 Halted t p s =
         let r = ran_stopped b m1 t runs.Halted p s in
-        (p.steps + s.steps, record { events = stopped_events b m1 t runs.Halted p s; ends = (ap (λ z. z.end) r, keeps t Halted (run (p.steps + s.steps) m0 answers) s.to (ap (λ z. z.state) r) s.held) }, λ q. let c = p.cost in let d = s.cost in omega (arith, c, d), p.by.nests [] s.steps (s.nested []))
+        (p.steps + s.steps, record { events = stopped_events b m1 t runs.Halted p s; ends = (ap (λ z. z.end) r, keeps_live t Halted (run (p.steps + s.steps) m0 answers) s.to (ap (λ z. z.state) r) s.held) }, λ q. let c = p.cost in let d = s.cost in omega (arith, c, d), p.by.nests [] s.steps (s.nested []))
     shown_final b m1 (Fault k) t p s =
         let r = ran_stopped b m1 t (runs.Fault k) p s in
-        (p.steps + s.steps, record { events = stopped_events b m1 t (runs.Fault k) p s; ends = (ap (λ z. z.end) r, keeps t (Fault k) (run (p.steps + s.steps) m0 answers) s.to (ap (λ z. z.state) r) s.held) }, λ q. let c = p.cost in let d = s.cost in omega (arith, c, d), p.by.nests [] s.steps (s.nested []))
+        (p.steps + s.steps, record { events = stopped_events b m1 t (runs.Fault k) p s; ends = (ap (λ z. z.end) r, keeps_live t (Fault k) (run (p.steps + s.steps) m0 answers) s.to (ap (λ z. z.state) r) s.held) }, λ q. let c = p.cost in let d = s.cost in omega (arith, c, d), p.by.nests [] s.steps (s.nested []))
     shown_final b m1 Starved t p s =
         let r = ran_stopped b m1 t runs.Starved p s in
-        (p.steps + s.steps, record { events = stopped_events b m1 t runs.Starved p s; ends = (ap (λ z. z.end) r, keeps t Starved (run (p.steps + s.steps) m0 answers) s.to (ap (λ z. z.state) r) s.held) }, λ q. let c = p.cost in let d = s.cost in omega (arith, c, d), p.by.nests [] s.steps (s.nested []))
+        (p.steps + s.steps, record { events = stopped_events b m1 t runs.Starved p s; ends = (ap (λ z. z.end) r, keeps_live t Starved (run (p.steps + s.steps) m0 answers) s.to (ap (λ z. z.state) r) s.held) }, λ q. let c = p.cost in let d = s.cost in omega (arith, c, d), p.by.nests [] s.steps (s.nested []))
     shown_final b m1 Stray t p s = (p.steps + s.steps, record { events = going_events b m1 t 0 p s; ends = ap (λ z. z.end) (ran_going b m1 t 0 p s) }, λ q. let c = p.cost in let d = s.cost in omega (arith, c, d), p.by.nests [] s.steps (s.nested []))
     shown_final b m1 Deep t p s = (p.steps + s.steps, record { events = going_events b m1 t 0 p s; ends = ap (λ z. z.end) (ran_going b m1 t 0 p s) }, λ q. let c = p.cost in let d = s.cost in omega (arith, c, d), p.by.nests [] s.steps (s.nested []))
     shown_final b m1 OutOfBound t p s = (p.steps + s.steps, record { events = going_events b m1 t n p s; ends = (ap (λ z. z.end) (ran_going b m1 t n p s), let l = s.many in omega (arith, l)) }, λ q. let c = p.cost in let d = s.cost in omega (arith, c, d), p.by.nests [] s.steps (s.nested []))
 
     -- steps before, and more of them
-    further : (b : Begin) (m1 : machine.State) (t : State Where) (pc least : ℕ) (R : machine.State → Type 0) → Pre m0 answers b m1 → (f : Came (holder S) m1 b t pc least 0 R) → Pre m0 answers (begin (holder S) t) f.to
+    further : (b : Begin) (m1 : machine.State) (t : State Where) (pc least : ℕ) (R : machine.State → Type 0) → Pre m0 answers b m1 → (f : Came (live_holder S) m1 b t pc least 0 R) → Pre m0 answers (begin (live_holder S) t) f.to
     further b m1 t pc least R p f = record {
       steps = p.steps + f.steps;
       made = p.made ++ f.made;
@@ -160,8 +167,8 @@ module _ (S : Setting) (fits : Fits S) where
       cost = let c = p.cost in let d = f.cost in omega (arith, c, d);
     }
 
-    strays : (b : Begin) (m1 : machine.State) (t : State Where) (pc least : ℕ) (R : machine.State → Type 0) → Pre m0 answers b m1 → Came (holder S) m1 b t pc least 0 R → Shown (final Stray t.world)
-    strays b m1 t pc least R p f = shown_final b m1 Stray t p (still (lang S) (holder S) [] m1 b t pc least R f)
+    strays : (b : Begin) (m1 : machine.State) (t : State Where) (pc least : ℕ) (R : machine.State → Type 0) → Pre m0 answers b m1 → Came (live_holder S) m1 b t pc least 0 R → Shown (final Stray t.world)
+    strays b m1 t pc least R p f = shown_final b m1 Stray t p (still (lang S) (live_holder S) [] m1 b t pc least R f)
 
 module _ (S : Setting) (card : Option (List ℕ)) (boot rest : ℕ) (l : Linked S card boot rest) where
   abbrev κ0 : Ctx
@@ -247,45 +254,46 @@ module _ (S : Setting) (card : Option (List ℕ)) (boot rest : ℕ) (l : Linked 
     Here e = Shown S l.fits m0 answers n e
 
     -- main has returned
-    halts : (t : State Where) (m1 : machine.State) → Pre S l.fits m0 answers (begin (holder S) t) m1 → Mach S κ1 t m1 → m1.counter ≡ l.after → Here (final Halted t.world)
+    halts : (t : State Where) (m1 : machine.State) → Pre S l.fits m0 answers (begin (live_holder S) t) m1 → Like (live_at S κ1 Stop) (Mach S κ1) t m1 → m1.counter ≡ l.after → Here (final Halted t.world)
     halts t m1 p h e =
         let xs = t.world.store.answers in
-        let eff = line_effect S.console (having h.registers h.words) m1 l.after (instr.Plain HLT) l.last h.held e l.halt (omega arith, omega arith, omega arith) ∙ halt_effect m1 l.last in
+        let eff = line_effect S.console (having h.held.registers h.held.words) m1 l.after (instr.Plain HLT) l.last h.held.held e l.halt (omega arith, omega arith, omega arith) ∙ halt_effect m1 l.last in
         let r : run (p.steps + 1) m0 answers ≡ record { events = p.made ++ []; end = runs.Halted; state = m1 } = p.by.runs 1 ∙ ap (before p.made) (run-halted 0 m1 m1 xs eff) in (
           p.steps + 1,
           record {
             events = ap (λ z. z.events) r ∙ append-nil p.made ∙ sym p.events;
-            ends = (ap (λ z. z.end) r, keeps S l.fits t Halted (run (p.steps + 1) m0 answers) m1 (ap (λ z. z.state) r) (record { context = κ1; shown = m1; mach = h; memory = λ q. refl }));
+            ends = (ap (λ z. z.end) r, keeps_live S l.fits t Halted (run (p.steps + 1) m0 answers) m1 (ap (λ z. z.state) r) (h.other, h.same.world, record { context = κ1; shown = m1; mach = h.held; memory = λ q. refl }));
           },
           λ q. let c = p.cost in omega (arith, c),
           p.by.nests [] 1 (nested_stopped 0 [] m1 m1 xs stepped.Halted eff refl),
         )
 
-    main_ends : (b : Begin) (m1 : machine.State) (r : Res (State Where)) → Pre S l.fits m0 answers b m1 → Sim (holder S) κ1 m1 b l.after n [] r → Settled r → Here (main_done r)
-    main_ends b m1 (Next t) p a ok = halts t a.to (further S l.fits m0 answers n b m1 t l.after 0 (Mach S κ1 t) p a) a.held a.at
+    main_ends : (b : Begin) (m1 : machine.State) (r : Res (State Where)) → Pre S l.fits m0 answers b m1 → Sim (live_holder S) κ1 (Like (live_at S κ1 Stop) (Mach S κ1)) m1 b l.after n [] r → Settled r → Here (main_done r)
+    main_ends b m1 (Next t) p a ok = halts t a.to (further S l.fits m0 answers n b m1 t l.after 0 (Like (live_at S κ1 Stop) (Mach S κ1) t) p a) a.held a.at
     main_ends b m1 (Leaves k t) p a ok = absurd ok
     main_ends b m1 (Repeats k t) p a ok = absurd ok
     main_ends b m1 (Returns t) p a ok = absurd ok
     main_ends b m1 (Over f t) p a ok = shown_final S l.fits m0 answers n b m1 f t p a
 
   module _ (m0 : machine.State) (answers : List ℕ) where
-    main_row : (n : ℕ) (t : State Where) (m1 : machine.State) → Pre S l.fits m0 answers (begin (holder S) t) m1 → m1.counter ≡ S.leaves boot → Mach S κ1 t m1 → Shown S l.fits m0 answers n (main_called registers_and_slots S.code S.frames n t)
-    main_row zero t m1 p e h = shown_final S l.fits m0 answers zero (begin (holder S) t) m1 OutOfBound t p (record { steps = 0; made = []; to = m1; left = t.world.store.answers; by = (reaches_here m1 t.world.store.answers).runs; nested = λ ls. nested_none ls m1 t.world.store.answers; events = sym (append-nil t.world.events); cost = omega arith; many = omega arith })
+    main_row : (n : ℕ) (t : State Where) (m1 : machine.State) → Pre S l.fits m0 answers (begin (live_holder S) t) m1 → m1.counter ≡ S.leaves boot → Like (λ r. false) (Mach S κ1) t m1 → Shown S l.fits m0 answers n (main_called registers_and_slots S.code S.frames n t)
+    main_row zero t m1 p e h = shown_final S l.fits m0 answers zero (begin (live_holder S) t) m1 OutOfBound t p (record { steps = 0; made = []; to = m1; left = t.world.store.answers; by = (reaches_here m1 t.world.store.answers).runs; nested = λ ls. nested_none ls m1 t.world.store.answers; events = sym (append-nil t.world.events); cost = omega arith; many = omega arith })
     main_row (suc j) t m1 p e h =
         let L = lang S in
-        let c = subst (λ u. CallSim (holder S) (shapes S) κ1 l.after None S.code.main u m1 (begin (holder S) t) (L.enter S.code.main [] u)) (spent_zero t) (call_sim S l.fits l.functions κ1 (S.leaves boot) l.after None S.code.main [] t m1 0 (omega arith) l.calls_main e h) in
-        main_ends m0 answers (suc j) (begin (holder S) t) m1 (did (L.enter S.code.main [] t) (λ v. call_done L.none (L.back None t) (meaning.below L (suc j) (L.body S.code.main) v))) p
-        (entered_sim L (holder S) (shapes S) (parts S l.fits l.functions) κ1 l.after (suc j) j [] None S.code.main t m1 (begin (holder S) t) (L.enter S.code.main [] t) (meaning.below L (suc j)) (omega arith)
+        let c = subst (λ u. CallSim (live_holder S) (shapes S) (Like (live_at S κ1 Stop) (Mach S κ1)) l.after None S.code.main u m1 (begin (live_holder S) t) (L.enter S.code.main [] u)) (spent_zero t) (call_like S l.fits l.functions κ1 (S.leaves boot) l.after None S.code.main [] Stop t m1 0 (omega arith) l.calls_main e h) in
+        main_ends m0 answers (suc j) (begin (live_holder S) t) m1 (did (L.enter S.code.main [] t) (λ v. call_done L.none (L.back None t) (meaning.below L (suc j) (L.body S.code.main) v))) p
+        (entered_sim L (live_holder S) (shapes S) (parts S l.fits l.functions) κ1 (Like (live_at S κ1 Stop) (Mach S κ1)) l.after (suc j) j [] None S.code.main t m1 (begin (live_holder S) t) (L.enter S.code.main [] t) (meaning.below L (suc j)) (omega arith)
         (λ κ pc q ls d u m2 at2 e2 h2. follows S l.fits l.functions j κ pc q ls d u m2 at2 e2 h2) c)
         (settles L.none (L.back None t) (L.enter S.code.main [] t) (meaning.below L (suc j) (L.body S.code.main)))
 
-    start_row : (n : ℕ) (b : Begin) (m1 : machine.State) (r : Res (State Where)) → Pre S l.fits m0 answers b m1 → Sim (holder S) κ0 m1 b (S.leaves boot) n [] r → Shown S l.fits m0 answers n (start_done r (main_called registers_and_slots S.code S.frames n))
-    start_row n b m1 (Next t) p a = main_row n t a.to (further S l.fits m0 answers n b m1 t (S.leaves boot) 0 (Mach S κ0 t) p a) a.at (left t a.to a.held)
-    start_row n b m1 (Leaves k t) p a = strays S l.fits m0 answers n b m1 t _ 0 (Mach S κ0 t) p a
-    start_row n b m1 (Repeats k t) p a = strays S l.fits m0 answers n b m1 t _ 1 (Mach S κ0 t) p a
+    start_row : (n : ℕ) (b : Begin) (m1 : machine.State) (r : Res (State Where)) → Pre S l.fits m0 answers b m1 → Sim (live_holder S) κ0 (Like (live_at S κ0 Stop) (Mach S κ0)) m1 b (S.leaves boot) n [] r → Shown S l.fits m0 answers n (start_done r (main_called registers_and_slots S.code S.frames n))
+    start_row n b m1 (Next t) p a = main_row n t a.to (further S l.fits m0 answers n b m1 t (S.leaves boot) 0 (Like (live_at S κ0 Stop) (Mach S κ0) t) p a) a.at
+        (record { other = a.held.other; same = same_weaker (live_at S κ0 Stop) (λ r. false) a.held.other t (λ r lt e. cc) a.held.same; held = left a.held.other a.to a.held.held })
+    start_row n b m1 (Leaves k t) p a = strays S l.fits m0 answers n b m1 t _ 0 (Like (live_at S κ0 Stop) (Mach S κ0) t) p a
+    start_row n b m1 (Repeats k t) p a = strays S l.fits m0 answers n b m1 t _ 1 (Like (live_at S κ0 Stop) (Mach S κ0) t) p a
     start_row n b m1 (Returns t) p (q, x, a) =
         subst (λ z. Shown S l.fits m0 answers n z) (main_same t a.held.cells n)
-        (main_row n (record t { cells = a.held.cells }) a.to (further S l.fits m0 answers n b m1 t q 0 (Given S κ0 t) p a) (a.at ∙ start_ends q x) (left_given t a.to a.held))
+        (main_row n (record t { cells = a.held.cells }) a.to (further S l.fits m0 answers n b m1 t q 0 (Given S κ0 t) p a) (a.at ∙ start_ends q x) (like_self S (λ r. false) (Mach S κ1) (record t { cells = a.held.cells }) a.to (left_given t a.to a.held)))
     start_row n b m1 (Over f t) p a = shown_final S l.fits m0 answers n b m1 f t p a
 
   -- ---- the opening
@@ -329,6 +337,7 @@ module _ (S : Setting) (card : Option (List ℕ)) (boot rest : ℕ) (l : Linked 
   pub row : (n : ℕ) (answers : List ℕ) → Shown S l.fits (runs.opening S.console.words card) answers n (final_of registers_and_slots S.code S.frames n answers card)
   row n answers =
       let s0 = opening S.code answers card in
-      let p : Pre S l.fits (runs.opening S.console.words card) answers (begin (holder S) s0) m1 = record { steps = 0; made = []; by = reaches_here m1 answers; events = refl; cost = omega arith } in
-      start_row (runs.opening S.console.words card) answers n (begin (holder S) s0) m1 (meaning.runs (lang S) n S.code.start.body s0) p
-      (follows S l.fits l.functions n κ0 (S.enters boot) (S.leaves boot) [] S.code.start.body s0 m1 l.start (sym l.opening) (record { place = S.fixed; words = first_words S card; at = l.opens answers; registers = λ r. 0; like = λ r lt. refl; held = held_first }))
+      let p : Pre S l.fits (runs.opening S.console.words card) answers (begin (live_holder S) s0) m1 = record { steps = 0; made = []; by = reaches_here m1 answers; events = refl; cost = omega arith } in
+      start_row (runs.opening S.console.words card) answers n (begin (live_holder S) s0) m1 (meaning.runs (lang S) n S.code.start.body s0) p
+      (follows S l.fits l.functions n κ0 (S.enters boot) (S.leaves boot) [] S.code.start.body s0 m1 l.start (sym l.opening)
+      (like_self S (live_at S κ0 S.code.start.body) (Mach S κ0) s0 m1 (record { place = S.fixed; words = first_words S card; at = l.opens answers; registers = λ r. 0; like = λ r lt. refl; held = held_first })))

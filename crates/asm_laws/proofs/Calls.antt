@@ -365,14 +365,14 @@ module _ (S : Setting) (fits : Fits S) where
               many = omega arith;
             }
 
-    pub enters : FunctionAt S g → Enters (holder S) (shapes S) κ p t g (spent w s) (begun registers_and_slots (sizes S) (function_at S.code g).params g args (spent w s)) m (begin (holder S) s)
+    pub enters : FunctionAt S g → Enters (holder S) (shapes S) (Mach S κ) p t g (spent w s) (begun registers_and_slots (sizes S) (function_at S.code g).params g args (spent w s)) m (begin (holder S) s)
     enters fn = record { inner = κ2; link = link; end = S.leaves g; exit = inl refl; placed = fn.body; goes = goes fn; back = back_at fn }
 
   pub call_sim : (functions : (g : ℕ) → Callable S g → FunctionAt S g) (κ : Ctx) (pc p : ℕ) (t : Option Where) (g : ℕ) (args : List Where) (s : State Where) (m : machine.State) (w : ℕ) → 3 * length args ≤ 4 + w → CallAt S κ.fn pc t g args p → m.counter ≡ pc → Mach S κ s m →
-      CallSim (holder S) (shapes S) κ p t g (spent w s) m (begin (holder S) s) ((lang S).enter g args (spent w s))
+      CallSim (holder S) (shapes S) (Mach S κ) p t g (spent w s) m (begin (holder S) s) ((lang S).enter g args (spent w s))
   call_sim functions κ pc p t g args s m w paid at epc h = go (leb (s.world.store.used + ((sizes S).frame g + 2) + (sizes S).globals) 4194304) refl
     where
       go : (x : Bool) → leb (s.world.store.used + ((sizes S).frame g + 2) + (sizes S).globals) 4194304 ≡ x →
-          CallSim (holder S) (shapes S) κ p t g (spent w s) m (begin (holder S) s) (if_room x (spent w s) (begun registers_and_slots (sizes S) (function_at S.code g).params g args (spent w s)))
+          CallSim (holder S) (shapes S) (Mach S κ) p t g (spent w s) m (begin (holder S) s) (if_room x (spent w s) (begun registers_and_slots (sizes S) (function_at S.code g).params g args (spent w s)))
       go true e = enters functions κ pc p t g args s m at epc h (leb-true (s.world.store.used + ((sizes S).frame g + 2) + (sizes S).globals) 4194304 e) w paid (functions g at.callable)
       go false e = λ n. record { steps = 0; made = []; to = m; left = s.world.store.answers; by = (reaches_here m s.world.store.answers).runs; nested = λ ls. nested_none ls m s.world.store.answers; events = sym (append-nil s.world.events); cost = omega arith; many = omega arith }

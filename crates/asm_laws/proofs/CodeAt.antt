@@ -21,6 +21,7 @@ use Rattle.asm_laws.specs.Placing.{Line, Bounds, end_of, begin_of, owed, paid, J
 use Rattle.asm_laws.specs.Standing.{Stand}
 use Rattle.asm_laws.specs.declared.copying.Copying.{Copying}
 use Rattle.asm_laws.specs.Copies.{copy_at, copy_or}
+use Rattle.asm_laws.specs.Live.{live_soon, ahead}
 use Rattle.asm_laws.specs.Holds.{Setting}
 use Rattle.asm_laws.specs.Calling.{ExitAt}
 use Rattle.asm_laws.specs.Program.{items_at}
@@ -175,6 +176,7 @@ module _ (S : Setting) (f : ℕ) (out : Option ℕ) (leave : Leaves S f out) whe
         inr (sym l.1.0),
         subst (λ y. CodeAt (paid es) (label n) y (label n)) (sym (stops b is)) refl,
         from es h0.0 (label n) e c q_n (behind h0.0 h0.2),
+        tt,
       )
   chosen w a b c es n m pc e last (Some to) one first two rest true is over left one_at first_at two_at behind h0 =
       let t = parts (brings F w 9) (jump_when (hand w 9) to ∷ mark n ∷ []) pc h0.0 h0.1 in
@@ -192,6 +194,7 @@ module _ (S : Setting) (f : ℕ) (out : Option ℕ) (leave : Leaves S f out) whe
         inr refl,
         subst (λ y. CodeAt (paid es) u.0 y u.0) (sym (stops b is)) refl,
         from es h0.0 u.0 e c q_n (behind h0.0 h0.2),
+        tt,
       )
   chosen w a b c es n m pc e last to one first two rest false is over left one_at first_at two_at behind h0 =
       let h1 = parts (first_part F w n m first) (second_part m two) pc h0.0 h0.1 in
@@ -212,6 +215,7 @@ module _ (S : Setting) (f : ℕ) (out : Option ℕ) (leave : Leaves S f out) whe
         inl (j.0, j.1),
         from (paid es) h1.0 (label n) (label m) b (sym at_n) (upto (paid es) h1.0 h3.0 (label m) b at_m (two_at h1.0 h3.0 (moved (paid es) last h3.0 h0.0 (sym h3.2.1.1 ∙ h3.2.2) (over h0.0 h0.2)) h3.1)),
         from es h0.0 (label m) e c q_m (behind h0.0 h0.2),
+        tt,
       )
 
   -- a block or loop stands between its labels
@@ -252,8 +256,8 @@ module _ (S : Setting) (f : ℕ) (out : Option ℕ) (leave : Leaves S f out) whe
     anywhere es (Do o c) zero pc e q is (inr at) = inr (at.0, at.1, at.2, anywhere es c at.0 at.1 e q is at.3)
     anywhere es (Do o c) (suc k) pc e q is at = anywhere es c k pc e q is at
     anywhere es (Call t g args c) done pc e q is at = (at.0, at.1, anywhere es c zero at.0 e q is at.2)
-    anywhere es (Choose w a b c) done pc e q is at = (at.0, at.1, at.2, at.3, at.4, at.5, at.6, at.7, anywhere es c zero at.3 e q is at.8)
-    anywhere es (Block b c) done pc e q is at = (at.0, at.1, anywhere es c zero at.0 e q is at.2)
+    anywhere es (Choose w a b c) done pc e q is at = (at.0, at.1, at.2, at.3, at.4, at.5, at.6, at.7, anywhere es c zero at.3 e q is at.8, at.9)
+    anywhere es (Block b c) done pc e q is at = (at.0, at.1, anywhere es c zero at.0 e q is at.2, at.3)
     anywhere es (Loop b c) done pc e q is at = (at.0, at.1, anywhere es c zero at.0 e q is at.2)
     anywhere es (Leave k c) done pc e q is at = (at.0, (at.1.0, anywhere es c zero at.1.0 e q is at.1.1))
     anywhere es (Again k c) done pc e q is at = (at.0, last c (λ t. anywhere es c zero at.1.0 e q t at.1.1) is)
@@ -318,11 +322,11 @@ module _ (S : Setting) (f : ℕ) (out : Option ℕ) (leave : Leaves S f out) whe
         (label n, label (n + 1), inl (h.0, h.1), turns (label n) (label (n + 1)) is one two, q_e)
 
     -- a loop that is done by a block move, or in turns
-    copied_at : (b : NodesT Where) (xs : List AsmItem) (es : List Bounds) (done pc q : ℕ) (y : Option Copying) → copy_at done b ≡ y → Here pc (copy_or y xs) q →
+    copied_at : (b c : NodesT Where) (xs : List AsmItem) (es : List Bounds) (done pc q : ℕ) (y : Option Copying) → copy_at done b ≡ y → Here pc (copy_or y (live_soon ahead F.lasting c) xs) q →
         (Here pc xs q → (r : ℕ) × (p : ℕ) × Passes S.console.words pc r × CodeAt (record { begins = r; ends = p; owes = true } ∷ es) r b p × (q ≡ p)) →
-        (p : ℕ) × ((items_at S).copy f pc b done p ⊎ ((items_at S).plain b done × (r : ℕ) × Passes S.console.words pc r × CodeAt (record { begins = r; ends = p; owes = true } ∷ es) r b p)) × (q ≡ p)
-    copied_at b xs es done pc q None e h go = let r = go h in (r.1, inr (e, r.0, r.2, r.3), r.4)
-    copied_at b xs es done pc q (Some y) e h go = (q, inl (y, e, h), refl)
+        (p : ℕ) × ((items_at S).copy f pc b c done p ⊎ ((items_at S).plain b done × (r : ℕ) × Passes S.console.words pc r × CodeAt (record { begins = r; ends = p; owes = true } ∷ es) r b p × Unit {0} × Unit {0} × Unit {0})) × (q ≡ p)
+    copied_at b c xs es done pc q None e h go = let r = go h in (r.1, inr (e, r.0, r.2, r.3, tt, tt, tt), r.4)
+    copied_at b c xs es done pc q (Some y) e h go = (q, inl (y, e, h), refl)
 
     -- behind an operator's word that is given back
     ends_at : (c : NodesT Where) (k : ℕ) → Gives k c → (last : Behind) (es : List Bounds) (ls : List ℕ) (n q e : ℕ) → Over es last e → Here q (past last ls n c k) e → (z : ℕ) × Passes S.console.words q z × ExitAt S f z
@@ -379,16 +383,16 @@ module _ (S : Setting) (f : ℕ) (out : Option ℕ) (leave : Leaves S f out) whe
           let around = record { begins = label n; ends = label (n + 1); owes = true } ∷ es in
           let r = enclosed_at b one es n pc s.0 (inside (ends last c)) (in_body es around (ends last c) s.0 (shut es c last ls (n + (2 + labels b)) s.0 e over s.2))
           (λ p q o k. code_at b zero (inside (ends last c)) (false ∷ bs) (ls ++ n ∷ []) around (n + 2) p q ok.0 (deeper ls n bs false same) (omega (arith, few)) (enter ls es n (omega (arith, few)) en) o tt k) s.1 in
-          (r.0, r.1, from es s.0 r.0 e c r.2 (code_at c zero last bs ls es (n + (2 + labels b)) s.0 e ok.1 same (omega (arith, few)) en over tt s.2))
+          (r.0, r.1, from es s.0 r.0 e c r.2 (code_at c zero last bs ls es (n + (2 + labels b)) s.0 e ok.1 same (omega (arith, few)) en over tt s.2), tt)
       code_at (Loop b c) done last bs ls es n pc e ok same few en over none h =
           let around = record { begins = label n; ends = label (n + 1); owes = true } ∷ es in
           let inner = ls ++ n ∷ [] in
           let all = past (inside (ends last c)) inner (n + 2) b zero in
           let part = part_items S.whole F out inner (n + 2) b in
           let test = test_items S.whole F out (n + 2) b zero in
-          let s = parts (copy_or (copy_at done b) (looped (is_tested b) n all part test)) (past last ls (n + (2 + labels b)) c zero) pc e h in
+          let s = parts (copy_or (copy_at done b) (live_soon ahead F.lasting c) (looped (is_tested b) n all part test)) (past last ls (n + (2 + labels b)) c zero) pc e h in
           let closed = enter ls es n (omega (arith, few)) en in
-          let r = copied_at b (looped (is_tested b) n all part test) es done pc s.0 (copy_at done b) refl s.1 (λ k. looped_at b all part test es n pc s.0 (inside (ends last c)) (is_tested b) refl (in_body es around (ends last c) s.0 (shut es c last ls (n + (2 + labels b)) s.0 e over s.2))
+          let r = copied_at b c (looped (is_tested b) n all part test) es done pc s.0 (copy_at done b) refl s.1 (λ k. looped_at b all part test es n pc s.0 (inside (ends last c)) (is_tested b) refl (in_body es around (ends last c) s.0 (shut es c last ls (n + (2 + labels b)) s.0 e over s.2))
           (λ p q o k. code_at b zero (inside (ends last c)) (true ∷ bs) inner around (n + 2) p q ok.0 (deeper ls n bs true same) (omega (arith, few)) closed o tt k)
           (λ p q t g k. test_at b zero inner around (true ∷ bs) (n + 2) p q t ok.0 (deeper ls n bs true same) (omega (arith, few)) closed (record { end = label n; owes = refl; begins = refl; here = g }) k) k) in
           (r.0, r.1, from es s.0 r.0 e c r.2 (code_at c zero last bs ls es (n + (2 + labels b)) s.0 e ok.1 same (omega (arith, few)) en over tt s.2))
@@ -428,6 +432,7 @@ module _ (S : Setting) (f : ℕ) (out : Option ℕ) (leave : Leaves S f out) whe
             inr refl,
             subst (λ y. CodeAt (paid es) e y e) (sym (stops b i.0)) refl,
             subst (λ y. CodeAt es e y e) (sym (stops c i.1)) refl,
+            tt,
           )
       test_at Stop done ls es bs n pc e is ok same few en t h = absurd cc
       test_at (Call r g args c) done ls es bs n pc e is ok same few en t h = absurd cc

@@ -1,6 +1,7 @@
 -- A loop that copies words is followed by a block move.
 use Rattle.std.proofs.Common.{◌≡◌, ◌≢◌, ℕ, zero, suc, ◌+◌, ◌<◌, ◌≤◌, inl, inr, Bool, true, false, List, [], length, refl, sym, ap, ◌∙◌, subst, arith, append-nil}
-use Rattle.std.specs.Prelude.{if◌then◌else◌}
+use Rattle.std.specs.Prelude.{if◌then◌else◌, ◌&&◌, not}
+use Rattle.asm_laws.specs.Copies.{is_left}
 use Rattle.kit_base.specs.Word.{add, sub, below}
 use Rattle.v32_isa.specs.declared.instruction.Plain.TheVariants.{MOVS}
 use Rattle.v32_isa.specs.declared.instruction.Two.TheVariants.{ISUB}
@@ -29,13 +30,13 @@ use Rattle.asm_laws.specs.Addresses.{Addr, Does, Console, readable, writable, st
 use Rattle.asm_laws.specs.Addresses as words
 use Rattle.asm_laws.specs.Holds.{Setting, sizes, Fits, Ctx, Stands, HoldsAt}
 use Rattle.asm_laws.specs.Acting.{Holds, DoesAs, Fitting}
-use Rattle.asm_laws.specs.Calling.{Mach, lang, holder}
+use Rattle.asm_laws.specs.Calling.{lang, holder}
 use Rattle.asm_laws.proofs.Stepping.{same_or_not, written_same, written_other, same_word, took, kept}
 use Rattle.asm_laws.proofs.Hands.{with_reg}
 use Rattle.asm_laws.proofs.Control.{after, earlier, here, still, then_sim}
 use Rattle.asm_laws.proofs.First.{word_stands}
 use Rattle.asm_laws.proofs.Ops.{acts}
-use Rattle.asm_laws.proofs.Leads.{Copier, Apart, copy_turn}
+use Rattle.asm_laws.proofs.Leads.{Copier, Apart, copying, copy_turn}
 use Rattle.asm_laws.proofs.BlockMove.{Copies, copies, faults_reading, faults_writing, counts_on, counts_out}
 
 -- events are as they were, and some work was done
@@ -101,15 +102,25 @@ module _ (S : Setting) (fits : Fits S) (κ : Ctx) where
   pub strays : (s t : State Where) (m : machine.State) → Since s t → Going (holder S) m (begin (holder S) (spent 3 s)) t 0
   strays s t m since = record { steps = 0; made = []; to = m; left = s.world.store.answers; by = (reaches_here m s.world.store.answers).runs; nested = λ ls. nested_none ls m s.world.store.answers; events = since.events ∙ sym (append-nil s.world.events); cost = let w = since.work in omega (arith, w); many = omega arith }
 
-  module _ (y : Copier) (apart : Apart y) where
+  module _ (y : Copier) (apart : Apart y) (J : Bool) where
     -- the registers of places, with those that the loop changes as the words have them
     abbrev pub put4 : (ℕ → ℕ) → Addr → ℕ → ℕ
     put4 r0 a = written (written (written (written r0 y.from (a.regs y.from)) y.to (a.regs y.to)) y.count (a.regs y.count)) y.cell (a.regs y.cell)
 
-    abbrev pub Others : (ℕ → ℕ) → Addr → Type 0
-    Others r0 a = (r : ℕ) → r < (S.whole.frames κ.fn).registers → r ≢ y.from → r ≢ y.to → r ≢ y.count → r ≢ y.cell → r0 r ≡ a.regs r
+    abbrev AllOthers : (ℕ → ℕ) → Addr → Type 0
+    AllOthers r0 a = (r : ℕ) → r < (S.whole.frames κ.fn).registers → r ≢ y.from → r ≢ y.to → r ≢ y.count → r ≢ y.cell → r0 r ≡ a.regs r
 
-    pub four_like : (r0 : ℕ → ℕ) (a : Addr) → Others r0 a → (r : ℕ) → r < (S.whole.frames κ.fn).registers → put4 r0 a r ≡ a.regs r
+    -- and but for that of the 1, where it is left
+    abbrev pub Others : (ℕ → ℕ) → Addr → Type 0
+    Others r0 a = (r : ℕ) → r < (S.whole.frames κ.fn).registers → r ≢ y.from → r ≢ y.to → r ≢ y.count → r ≢ y.cell → is_left (copying y) J r ≡ false → r0 r ≡ a.regs r
+
+    one_too : (r0 : ℕ → ℕ) (a : Addr) → Others r0 a → AllOthers (written r0 y.one (a.regs y.one)) a
+    one_too r0 a like r lt nf nt nn nc = elim (same_or_not r y.one) [
+      | inl z ↦ written_same r0 y.one (a.regs y.one) r z.0 ∙ ap a.regs (sym z.0)
+      | inr z ↦ written_other r0 y.one (a.regs y.one) r z.0 ∙ like r lt nf nt nn nc (ap (λ b. b && not J) z.1)
+    ]
+
+    four_like : (r0 : ℕ → ℕ) (a : Addr) → AllOthers r0 a → (r : ℕ) → r < (S.whole.frames κ.fn).registers → put4 r0 a r ≡ a.regs r
     four_like r0 a like r lt =
         let f1 = written r0 y.from (a.regs y.from) in
         let f2 = written f1 y.to (a.regs y.to) in
@@ -157,7 +168,9 @@ module _ (S : Setting) (fits : Fits S) (κ : Ctx) where
       stops : (s t : State Where) (m : machine.State) (r0 : ℕ → ℕ) (a b : Addr) (k j : ℕ) → Since s t → runs.Fault k ≡ runs.Fault j → Holds S κ t a → Others r0 a → Held C b m → b ≡ having r0 a → effect_of m ≡ EndsIn (stepped.Fault k) m → Stopped (holder S) m (begin (holder S) (spent 3 s)) t (runs.Fault j)
       stops s t m r0 a b k j since same h like held is eff =
           let hm = subst (λ z. Held C z m) is held in
-          stopped s t m (shown a m) r0 (put4 r0 a) a k j since same h (four_like r0 a like) hm (shown_held r0 a m hm) eff
+          let r1 = written r0 y.one (a.regs y.one) in
+          let m1 = took C 0 y.one (a.regs y.one) m in
+          stopped s t m (shown a m1) r0 (put4 r1 a) a k j since same h (four_like r1 a (one_too r0 a like)) hm (shown_held r1 a m1 (kept C (having r0 a) m 0 y.one (a.regs y.one) (omega (arith, lo.one)) hm)) eff
 
       -- in a turn the machine stands at the block move with the words that the turn begins with
       pub record Inside (s : State Where) (m : machine.State) (r0 : ℕ → ℕ) (pc next : ℕ) : Type 0 where
@@ -183,14 +196,16 @@ module _ (S : Setting) (fits : Fits S) (κ : Ctx) where
         pub writes : writable C (words.regs y.to) ≡ true
         pub word : words.memory (words.regs y.to) ≡ words.regs y.cell
 
-      -- what is done behind it takes four steps
-      pub record Put (t : State Where) (m : machine.State) (p : ℕ) (xs : List ℕ) : Type 0 where
+      -- what is done behind it takes at most four steps
+      pub record Put (R : State Where → machine.State → Type 0) (t : State Where) (m : machine.State) (p : ℕ) (xs : List ℕ) : Type 0 where
         pub to : machine.State
-        pub by : Reaches 4 m xs [] to xs
+        pub steps : ℕ
+        pub few : steps ≤ 4
+        pub by : Reaches steps m xs [] to xs
         pub at : to.counter ≡ p
-        pub held : Mach S κ t to
+        pub held : R t to
 
-      module _ (pc next p : ℕ) (puts : (t : State Where) (m : machine.State) (xs : List ℕ) → Behind t m next → Put t m p xs) where
+      module _ (R : State Where → machine.State → Type 0) (pc next p : ℕ) (puts : (t : State Where) (m : machine.State) (xs : List ℕ) → Behind t m next → Put R t m p xs) where
         abbrev L : meaning.Lang Where
         L = lang S
 
@@ -198,13 +213,13 @@ module _ (S : Setting) (fits : Fits S) (κ : Ctx) where
         again n = meaning.below (lang S) n (Loop (copy_turn y) Stop)
 
         abbrev Follows : ℕ → List Bounds → State Where → machine.State → Res (State Where) → Type 0
-        Follows n ls s m r = Sim (holder S) κ m (begin (holder S) (spent 3 s)) p n ls (turn_done r (again n))
+        Follows n ls s m r = Sim (holder S) κ R m (begin (holder S) (spent 3 s)) p n ls (turn_done r (again n))
 
         -- the next turn
         abbrev Turn : ℕ → Type 0
         Turn n = (ls : List Bounds) (s : State Where) (m : machine.State) (r0 : ℕ → ℕ) → Inside s m r0 pc next → Follows n ls s m (meaning.does (lang S) n (meaning.below (lang S) n) (copy_turn y) (spent node_weight s))
 
-        module _ (n : ℕ) (ls : List Bounds) (s : State Where) (m : machine.State) (r0 : ℕ → ℕ) (i : Inside s m r0 pc next) (onward : (t : State Where) → Came (holder S) m (begin (holder S) (spent 3 s)) t pc 1 0 (λ u. Inside t u r0 pc next) → Sim (holder S) κ m (begin (holder S) (spent 3 s)) p n ls (again n t)) where
+        module _ (n : ℕ) (ls : List Bounds) (s : State Where) (m : machine.State) (r0 : ℕ → ℕ) (i : Inside s m r0 pc next) (onward : (t : State Where) → Came (holder S) m (begin (holder S) (spent 3 s)) t pc 1 0 (λ u. Inside t u r0 pc next) → Sim (holder S) κ R m (begin (holder S) (spent 3 s)) p n ls (again n t)) where
           abbrev a : Addr
           a = i.words
 
@@ -315,7 +330,7 @@ module _ (S : Setting) (fits : Fits S) (κ : Ctx) where
                   place = h.place;
                   words = a5;
                   at = h.at;
-                  like = λ j lt nf nt nn nc. i.like j lt nf nt nn nc ∙ sym (written_other a4.regs y.to (add w 1) j nt ∙ written_other a3.regs y.from (add v 1) j nf ∙ two_on j nc nn);
+                  like = λ j lt nf nt nn nc left. i.like j lt nf nt nn nc left ∙ sym (written_other a4.regs y.to (add w 1) j nt ∙ written_other a3.regs y.from (add v 1) j nf ∙ two_on j nc nn);
                   move = record {
                     held = mv.held;
                     at = mv.at ∙ ap (λ b. if b then pc else next) (ap (below 0) left ∙ counts_on (suc k) (omega arith) low);
@@ -344,7 +359,7 @@ module _ (S : Setting) (fits : Fits S) (κ : Ctx) where
                 r0 = r0;
                 words = a3;
                 holds = h;
-                like = λ j lt nf nt nn nc. i.like j lt nf nt nn nc ∙ sym (two_on j nc nn);
+                like = λ j lt nf nt nn nc left. i.like j lt nf nt nn nc left ∙ sym (two_on j nc nn);
                 held = mv.held;
                 at = mv.at ∙ ap (λ b. if b then pc else next) (ap (below 0) left ∙ counts_out);
                 count = mv.count ∙ sym count_is;
@@ -355,14 +370,14 @@ module _ (S : Setting) (fits : Fits S) (κ : Ctx) where
                 word = ap a3.memory to_on ∙ written_same a.memory w x w refl ∙ sym (written_other a2.regs y.count (sub c 1) y.cell apart.four.cell_count ∙ word_is);
               }) in
               record {
-                steps = 1 + 4;
+                steps = 1 + b.steps;
                 made = [];
                 to = b.to;
-                by = subst (λ ys. Reaches (1 + 4) m s.world.store.answers [] b.to ys) (sym ans) (reaches_on 1 4 m mv.to b.to s.world.store.answers s.world.store.answers s.world.store.answers [] [] mv.by b.by);
+                by = subst (λ ys. Reaches (1 + b.steps) m s.world.store.answers [] b.to ys) (sym ans) (reaches_on 1 b.steps m mv.to b.to s.world.store.answers s.world.store.answers s.world.store.answers [] [] mv.by b.by);
                 at = b.at;
                 held = b.held;
                 events = since.events ∙ sym (append-nil s.world.events);
-                cost = let g = since.work in omega (arith, g);
+                cost = let g = since.work in let k = b.few in omega (arith, g, k);
                 many = omega arith;
               }
 
@@ -417,7 +432,7 @@ module _ (S : Setting) (fits : Fits S) (κ : Ctx) where
                   (λ t3 s3 n3 h3. tested r q t3 s3 (n3 ∙ n2 ∙ n1) h3))
               writes r false q t1 s1 n1 h1 =
                   fails Q s t1 s1 a1 1 (StoreO (Reg y.to) (Reg y.cell)) h1 (lo.to, lo.cell) (store_fails q) (Doing (Do (TwoO ISUB (Reg y.count) (Reg y.count) (Reg y.one)) (Choose (Reg y.count) steps Stop Stop))) astray
-                  (λ j t since same h. stops s t m r0 a1 (having r0 i.words) 1 j since same h (λ z lt nf nt nn nc. i.like z lt nf nt nn nc ∙ sym (one_on z nc)) i.move.held refl (faults_writing C (having r0 i.words) m pc next c v w i.move r q))
+                  (λ j t since same h. stops s t m r0 a1 (having r0 i.words) 1 j since same h (λ z lt nf nt nn nc left. i.like z lt nf nt nn nc left ∙ sym (one_on z nc)) i.move.held refl (faults_writing C (having r0 i.words) m pc next c v w i.move r q))
 
               reads : (b : Bool) → readable C v ≡ b → Q (Doing (copy_turn y) (spent node_weight s))
               reads true r =
@@ -433,6 +448,6 @@ module _ (S : Setting) (fits : Fits S) (κ : Ctx) where
         turns (suc k) ls s m r0 i =
             copied_turn (suc k) ls s m r0 i (λ t f.
             let r = turn_done (meaning.does (lang S) k (meaning.below (lang S) k) (copy_turn y) (spent node_weight t)) (again k) in
-            after (lang S) (holder S) κ m (begin (holder S) (spent 3 s)) t pc 1 (suc k) k p ls (λ u. Inside t u r0 pc next) (again (suc k) t) (omega arith) f
-            (then_sim (lang S) (holder S) κ f.to (begin (holder S) t) p p k ls r (meaning.does (lang S) k (meaning.below (lang S) k) Stop)
-            (earlier (lang S) (holder S) κ f.to (begin (holder S) t) (begin (holder S) (spent 3 t)) p k ls r refl refl (omega arith) (turns k ls t f.to r0 f.held)) (λ u m2 e h. here (lang S) (holder S) κ m2 u p e h)))
+            after (lang S) (holder S) κ R m (begin (holder S) (spent 3 s)) t pc 1 (suc k) k p ls (λ u. Inside t u r0 pc next) (again (suc k) t) (omega arith) f
+            (then_sim (lang S) (holder S) κ R R f.to (begin (holder S) t) p p k ls r (meaning.does (lang S) k (meaning.below (lang S) k) Stop)
+            (earlier (lang S) (holder S) κ R f.to (begin (holder S) t) (begin (holder S) (spent 3 t)) p k ls r refl refl (omega arith) (turns k ls t f.to r0 f.held)) (λ u m2 e h. here (lang S) (holder S) (R u) m2 u p e h)))

@@ -1,5 +1,5 @@
 -- A loop that fills words is followed by a block fill.
-use Rattle.std.proofs.Common.{◌≡◌, ◌≢◌, ℕ, zero, suc, ◌+◌, ◌<◌, inl, inr, Bool, true, false, List, [], length, refl, sym, ap, ◌∙◌, subst, arith, append-nil}
+use Rattle.std.proofs.Common.{◌≤◌, ◌≡◌, ◌≢◌, ℕ, zero, suc, ◌+◌, ◌<◌, inl, inr, Bool, true, false, List, [], length, refl, sym, ap, ◌∙◌, subst, arith, append-nil}
 use Rattle.std.specs.Prelude.{if◌then◌else◌}
 use Rattle.kit_base.specs.Word.{add, sub, below}
 use Rattle.v32_isa.specs.declared.instruction.Plain.TheVariants.{SETS}
@@ -19,6 +19,8 @@ use Rattle.mid_code.specs.Code.{NodesT, Stop, Do, Choose, Loop, Again, TwoO, Ste
 use Rattle.mid_code.specs.Meaning.{Did, On, Ends, Res, Next, Repeats, Over, choose, did, turn_done, then_next, node_weight}
 use Rattle.mid_code.specs.Meaning as meaning
 use Rattle.mid_code.specs.States.{State, spent, word_tested}
+use Rattle.std.specs.Prelude.{◌&&◌, not}
+use Rattle.asm_laws.specs.Copies.{is_left}
 use Rattle.asm_laws.specs.Operations.{Frame}
 use Rattle.asm_laws.specs.Placing.{Bounds}
 use Rattle.asm_laws.specs.inner.Following.{begin, Came, Sim}
@@ -26,12 +28,12 @@ use Rattle.asm_laws.specs.Addresses.{Addr, Does, Console, readable, writable, st
 use Rattle.asm_laws.specs.Addresses as words
 use Rattle.asm_laws.specs.Holds.{Setting, Fits, Ctx, Stands, HoldsAt}
 use Rattle.asm_laws.specs.Acting.{Holds}
-use Rattle.asm_laws.specs.Calling.{Mach, lang, holder}
+use Rattle.asm_laws.specs.Calling.{lang, holder}
 use Rattle.asm_laws.proofs.Stepping.{same_or_not, written_same, written_other, took, kept}
 use Rattle.asm_laws.proofs.Hands.{with_reg}
 use Rattle.asm_laws.proofs.Control.{after, earlier, here, still, then_sim}
 use Rattle.asm_laws.proofs.First.{word_stands}
-use Rattle.asm_laws.proofs.Leads.{Filler, Four, fill_turn}
+use Rattle.asm_laws.proofs.Leads.{Filler, Four, filling, fill_turn}
 use Rattle.asm_laws.proofs.BlockMove.{Copies, fills, faults_filling, counts_on, counts_out}
 use Rattle.asm_laws.proofs.Copied.{Since, goes_on, fails, stopped, strays}
 
@@ -42,15 +44,25 @@ module _ (S : Setting) (fits : Fits S) (κ : Ctx) where
   abbrev F : Frame
   F = S.whole.frames κ.fn
 
-  module _ (y : Filler) (apart : Four y.to y.cell y.count y.one) where
+  module _ (y : Filler) (apart : Four y.to y.cell y.count y.one) (J : Bool) where
     -- the registers of places, with those that the loop changes as the words have them
     abbrev pub put2 : (ℕ → ℕ) → Addr → ℕ → ℕ
     put2 r0 a = written (written r0 y.to (a.regs y.to)) y.count (a.regs y.count)
 
-    abbrev pub Others : (ℕ → ℕ) → Addr → Type 0
-    Others r0 a = (r : ℕ) → r < (S.whole.frames κ.fn).registers → r ≢ y.to → r ≢ y.count → r0 r ≡ a.regs r
+    abbrev AllOthers : (ℕ → ℕ) → Addr → Type 0
+    AllOthers r0 a = (r : ℕ) → r < (S.whole.frames κ.fn).registers → r ≢ y.to → r ≢ y.count → r0 r ≡ a.regs r
 
-    pub two_like : (r0 : ℕ → ℕ) (a : Addr) → Others r0 a → (r : ℕ) → r < (S.whole.frames κ.fn).registers → put2 r0 a r ≡ a.regs r
+    -- and but for that of the 1, where it is left
+    abbrev pub Others : (ℕ → ℕ) → Addr → Type 0
+    Others r0 a = (r : ℕ) → r < (S.whole.frames κ.fn).registers → r ≢ y.to → r ≢ y.count → is_left (filling y) J r ≡ false → r0 r ≡ a.regs r
+
+    one_too : (r0 : ℕ → ℕ) (a : Addr) → Others r0 a → AllOthers (written r0 y.one (a.regs y.one)) a
+    one_too r0 a like r lt nt nn = elim (same_or_not r y.one) [
+      | inl z ↦ written_same r0 y.one (a.regs y.one) r z.0 ∙ ap a.regs (sym z.0)
+      | inr z ↦ written_other r0 y.one (a.regs y.one) r z.0 ∙ like r lt nt nn (ap (λ b. b && not J) z.1)
+    ]
+
+    two_like : (r0 : ℕ → ℕ) (a : Addr) → AllOthers r0 a → (r : ℕ) → r < (S.whole.frames κ.fn).registers → put2 r0 a r ≡ a.regs r
     two_like r0 a like r lt =
         let f1 = written r0 y.to (a.regs y.to) in
         elim (same_or_not r y.count) [
@@ -101,25 +113,27 @@ module _ (S : Setting) (fits : Fits S) (κ : Ctx) where
         pub target : register_of m 13 ≡ add (words.regs y.to) 1
         pub writes : writable C (words.regs y.to) ≡ true
 
-      -- what is done behind it takes two steps
-      pub record Put (t : State Where) (m : machine.State) (p : ℕ) (xs : List ℕ) : Type 0 where
+      -- what is done behind it takes at most two steps
+      pub record Put (R : State Where → machine.State → Type 0) (t : State Where) (m : machine.State) (p : ℕ) (xs : List ℕ) : Type 0 where
         pub to : machine.State
-        pub by : Reaches 2 m xs [] to xs
+        pub steps : ℕ
+        pub few : steps ≤ 2
+        pub by : Reaches steps m xs [] to xs
         pub at : to.counter ≡ p
-        pub held : Mach S κ t to
+        pub held : R t to
 
-      module _ (pc next p : ℕ) (puts : (t : State Where) (m : machine.State) (xs : List ℕ) → Behind t m next → Put t m p xs) where
+      module _ (R : State Where → machine.State → Type 0) (pc next p : ℕ) (puts : (t : State Where) (m : machine.State) (xs : List ℕ) → Behind t m next → Put R t m p xs) where
         abbrev again : ℕ → State Where → Res (State Where)
         again n = meaning.below (lang S) n (Loop (fill_turn y) Stop)
 
         abbrev Follows : ℕ → List Bounds → State Where → machine.State → Res (State Where) → Type 0
-        Follows n ls s m r = Sim (holder S) κ m (begin (holder S) (spent 3 s)) p n ls (turn_done r (again n))
+        Follows n ls s m r = Sim (holder S) κ R m (begin (holder S) (spent 3 s)) p n ls (turn_done r (again n))
 
         -- the next turn
         abbrev Turn : ℕ → Type 0
         Turn n = (ls : List Bounds) (s : State Where) (m : machine.State) (r0 : ℕ → ℕ) → Inside s m r0 pc next → Follows n ls s m (meaning.does (lang S) n (meaning.below (lang S) n) (fill_turn y) (spent node_weight s))
 
-        module _ (n : ℕ) (ls : List Bounds) (s : State Where) (m : machine.State) (r0 : ℕ → ℕ) (i : Inside s m r0 pc next) (onward : (t : State Where) → Came (holder S) m (begin (holder S) (spent 3 s)) t pc 1 0 (λ u. Inside t u r0 pc next) → Sim (holder S) κ m (begin (holder S) (spent 3 s)) p n ls (again n t)) where
+        module _ (n : ℕ) (ls : List Bounds) (s : State Where) (m : machine.State) (r0 : ℕ → ℕ) (i : Inside s m r0 pc next) (onward : (t : State Where) → Came (holder S) m (begin (holder S) (spent 3 s)) t pc 1 0 (λ u. Inside t u r0 pc next) → Sim (holder S) κ R m (begin (holder S) (spent 3 s)) p n ls (again n t)) where
           abbrev a : Addr
           a = i.words
 
@@ -195,7 +209,7 @@ module _ (S : Setting) (fits : Fits S) (κ : Ctx) where
                   place = h.place;
                   words = a3;
                   at = h.at;
-                  like = λ j lt nt nn. i.like j lt nt nn ∙ sym (written_other a2.regs y.to (add w 1) j nt ∙ one_on j nn);
+                  like = λ j lt nt nn left. i.like j lt nt nn left ∙ sym (written_other a2.regs y.to (add w 1) j nt ∙ one_on j nn);
                   move = record {
                     held = mv.held;
                     at = on;
@@ -223,7 +237,7 @@ module _ (S : Setting) (fits : Fits S) (κ : Ctx) where
                 r0 = r0;
                 words = a2;
                 holds = h;
-                like = λ j lt nt nn. i.like j lt nt nn ∙ sym (one_on j nn);
+                like = λ j lt nt nn left. i.like j lt nt nn left ∙ sym (one_on j nn);
                 held = mv.held;
                 at = mv.at ∙ ap (λ b. if b then pc else next) (ap (below 0) left ∙ counts_out);
                 count = mv.count ∙ sym count_is;
@@ -231,14 +245,14 @@ module _ (S : Setting) (fits : Fits S) (κ : Ctx) where
                 writes = ap (writable C) to_on ∙ q;
               }) in
               record {
-                steps = 1 + 2;
+                steps = 1 + b.steps;
                 made = [];
                 to = b.to;
-                by = subst (λ ys. Reaches (1 + 2) m s.world.store.answers [] b.to ys) (sym ans) (reaches_on 1 2 m mv.to b.to s.world.store.answers s.world.store.answers s.world.store.answers [] [] mv.by b.by);
+                by = subst (λ ys. Reaches (1 + b.steps) m s.world.store.answers [] b.to ys) (sym ans) (reaches_on 1 b.steps m mv.to b.to s.world.store.answers s.world.store.answers s.world.store.answers [] [] mv.by b.by);
                 at = b.at;
                 held = b.held;
                 events = since.events ∙ sym (append-nil s.world.events);
-                cost = let g = since.work in omega (arith, g);
+                cost = let g = since.work in let k = b.few in omega (arith, g, k);
                 many = omega arith;
               }
 
@@ -285,7 +299,7 @@ module _ (S : Setting) (fits : Fits S) (κ : Ctx) where
                   (λ t2 s2 n2 h2. tested q t2 s2 (n2 ∙ n1) h2))
               writes false q =
                   fails S fits κ Q s (spent node_weight s) since0 i.words 1 (StoreO (Reg y.to) (Reg y.cell)) h0 (lo.to, lo.cell) (store_fails q) (Doing (Do (TwoO ISUB (Reg y.count) (Reg y.count) (Reg y.one)) (Choose (Reg y.count) steps Stop Stop))) astray
-                  (λ j t since same h. stopped S fits κ s t m (shown i.words m) r0 (put2 r0 i.words) i.words 1 j since same h (two_like r0 i.words i.like) i.move.held (shown_held r0 i.words m i.move.held) (faults_filling C (having r0 i.words) m pc next c x w i.move q))
+                  (λ j t since same h. stopped S fits κ s t m (shown i.words (took C 0 y.one (i.words.regs y.one) m)) r0 (put2 (written r0 y.one (i.words.regs y.one)) i.words) i.words 1 j since same h (two_like (written r0 y.one (i.words.regs y.one)) i.words (one_too r0 i.words i.like)) i.move.held (shown_held (written r0 y.one (i.words.regs y.one)) i.words (took C 0 y.one (i.words.regs y.one) m) (kept C (having r0 i.words) m 0 y.one (i.words.regs y.one) (omega (arith, lo.one)) i.move.held)) (faults_filling C (having r0 i.words) m pc next c x w i.move q))
 
         -- for every bound the machine writes as many words as there are turns
         pub turns : (n : ℕ) → Turn n
@@ -293,6 +307,6 @@ module _ (S : Setting) (fits : Fits S) (κ : Ctx) where
         turns (suc k) ls s m r0 i =
             filled_turn (suc k) ls s m r0 i (λ t f.
             let r = turn_done (meaning.does (lang S) k (meaning.below (lang S) k) (fill_turn y) (spent node_weight t)) (again k) in
-            after (lang S) (holder S) κ m (begin (holder S) (spent 3 s)) t pc 1 (suc k) k p ls (λ u. Inside t u r0 pc next) (again (suc k) t) (omega arith) f
-            (then_sim (lang S) (holder S) κ f.to (begin (holder S) t) p p k ls r (meaning.does (lang S) k (meaning.below (lang S) k) Stop)
-            (earlier (lang S) (holder S) κ f.to (begin (holder S) t) (begin (holder S) (spent 3 t)) p k ls r refl refl (omega arith) (turns k ls t f.to r0 f.held)) (λ u m2 e h. here (lang S) (holder S) κ m2 u p e h)))
+            after (lang S) (holder S) κ R m (begin (holder S) (spent 3 s)) t pc 1 (suc k) k p ls (λ u. Inside t u r0 pc next) (again (suc k) t) (omega arith) f
+            (then_sim (lang S) (holder S) κ R R f.to (begin (holder S) t) p p k ls r (meaning.does (lang S) k (meaning.below (lang S) k) Stop)
+            (earlier (lang S) (holder S) κ R f.to (begin (holder S) t) (begin (holder S) (spent 3 t)) p k ls r refl refl (omega arith) (turns k ls t f.to r0 f.held)) (λ u m2 e h. here (lang S) (holder S) (R u) m2 u p e h)))

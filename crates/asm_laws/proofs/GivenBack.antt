@@ -92,7 +92,7 @@ module _ (S : Setting) (fits : Fits S) where
     xs = s.world.store.answers
 
     abbrev Follows : Res (State Where) → Type 0
-    Follows r = Sim (holder S) κ m (begin (holder S) s) e n ls r
+    Follows r = Sim (holder S) κ (Mach S κ) m (begin (holder S) s) e n ls r
 
     word_given : (v : ℕ) → InNine C 3 m xs q b v → Follows (gives p (record (spent node_weight s) { cells = put registers_and_slots s.cells t (Num v) }))
     word_given v i =
@@ -154,7 +154,7 @@ module _ (S : Setting) (fits : Fits S) where
   -- ---- of the words of two places
 
   both_given : (κ : Ctx) (pc q out : ℕ) (u : TwoOf) (t x y p : Where) (s : State Where) (m : machine.State) → m.counter ≡ pc → Mach S κ s m → Fitting S κ.fn (TwoO u t x y) → AllOf (Stays (Number κ)) (uses (TwoO u t x y)) → is_same_place p t ≡ true →
-      Stand C.words S.address pc (made_items (Of κ) (Both u x y)) q → Passes C.words q out → ExitAt S κ.fn out → (e n : ℕ) (ls : List Bounds) → Sim (holder S) κ m (begin (holder S) s) e n ls (did ((lang S).act (TwoO u t x y) s) (gives p))
+      Stand C.words S.address pc (made_items (Of κ) (Both u x y)) q → Passes C.words q out → ExitAt S κ.fn out → (e n : ℕ) (ls : List Bounds) → Sim (holder S) κ (Mach S κ) m (begin (holder S) s) e n ls (did ((lang S).act (TwoO u t x y) s) (gives p))
   both_given κ pc q out u t x y p s m ec h fit stays same st passes exit e n ls =
       let F = Of κ in
       let b = having h.registers h.words in
@@ -168,8 +168,8 @@ module _ (S : Setting) (fits : Fits S) where
 
   -- an operation whose words come first, where the machine has not gone on yet
   first_does : (κ : Ctx) (s : State Where) (m : machine.State) (a c : Addr) (w e n : ℕ) (ls : List Bounds) (d : Did (State Where)) (go : State Where → Res (State Where)) → DoesAs S κ (spent w s) a d (Goes [] s.world.store.answers c) →
-      ((v : State Where) → Holds S κ v c → Sim (holder S) κ m (begin (holder S) v) e n ls (go v)) → Sim (holder S) κ m (begin (holder S) s) e n ls (did d go)
-  first_does κ s m a c w e n ls (On v) go g f = earlier (lang S) (holder S) κ m (begin (holder S) s) (begin (holder S) v) e n ls (go v) (sym g.answers) (g.events ∙ append-nil s.world.events) (let k = g.work in omega (arith, k)) (f v g.holds)
+      ((v : State Where) → Holds S κ v c → Sim (holder S) κ (Mach S κ) m (begin (holder S) v) e n ls (go v)) → Sim (holder S) κ (Mach S κ) m (begin (holder S) s) e n ls (did d go)
+  first_does κ s m a c w e n ls (On v) go g f = earlier (lang S) (holder S) κ (Mach S κ) m (begin (holder S) s) (begin (holder S) v) e n ls (go v) (sym g.answers) (g.events ∙ append-nil s.world.events) (let k = g.work in omega (arith, k)) (f v g.holds)
   first_does κ s m a c w e n ls (Ends Stray v) go g f = record { steps = 0; made = []; to = m; left = s.world.store.answers; by = (reaches_here m s.world.store.answers).runs; nested = λ ns. nested_none ns m s.world.store.answers; events = g.0 ∙ sym (append-nil s.world.events); cost = omega (arith, g.1); many = omega arith }
   first_does κ s m a c w e n ls (Ends Halted v) go g f = absurd g
   first_does κ s m a c w e n ls (Ends (Fault k) v) go g f = absurd g
@@ -239,7 +239,7 @@ module _ (S : Setting) (fits : Fits S) where
 
   known_given : (κ : Ctx) (pc q out : ℕ) (o : OpT Where) (r w : ℕ) (u : TwoOf) (t x y p : Where) (j : TwoOf) (z : Where) (s : State Where) (m : machine.State) → m.counter ≡ pc → Mach S κ s m → Fitting S κ.fn o → Fitting S κ.fn (TwoO u t x y) →
       (Of κ).registers ≡ 8 → word_put S.whole o ≡ Some (r, w) → r ≡ 8 → operand u x y ≡ Some (j, z) → is_same_place p t ≡ true → Stand C.words S.address pc (made_items (Of κ) (Known j z w)) q → Passes C.words q out → ExitAt S κ.fn out →
-      (e n : ℕ) (ls : List Bounds) → Sim (holder S) κ m (begin (holder S) s) e n ls (did ((lang S).act o s) (λ v. did ((lang S).act (TwoO u t x y) v) (gives p)))
+      (e n : ℕ) (ls : List Bounds) → Sim (holder S) κ (Mach S κ) m (begin (holder S) s) e n ls (did ((lang S).act o s) (λ v. did ((lang S).act (TwoO u t x y) v) (gives p)))
   known_given κ pc q out o r w u t x y p j z s m ec h fit fits2 eight put there works_is same st passes exit e n ls =
       let F = Of κ in
       let s1 = spent (op_weight o) s in
@@ -254,7 +254,7 @@ module _ (S : Setting) (fits : Fits S) where
   -- ---- both
 
   pub made_sim : (κ : Ctx) (pc : ℕ) (o : OpT Where) (c : NodesT Where) (s : State Where) (m : machine.State) → MadeAt S κ.fn pc o c → m.counter ≡ pc → Mach S κ s m → (e n : ℕ) (ls : List Bounds) →
-      Sim (holder S) κ m (begin (holder S) s) e n ls (did ((lang S).act o s) (meant (lang S) n (below (lang S) n) c))
+      Sim (holder S) κ (Mach S κ) m (begin (holder S) s) e n ls (did ((lang S).act o s) (meant (lang S) n (below (lang S) n) c))
   made_sim κ pc o c s m at ec h e n ls = elim (made_is S.whole (Of κ) o c at.more at.made at.is) [
     | inl x ↦
         let op = TwoO x.operator x.target x.first x.second in
@@ -262,8 +262,8 @@ module _ (S : Setting) (fits : Fits S) where
         let stays = subst (λ z. AllOf (Stays (Number κ)) (uses z)) x.op (uses_stay S κ.fn (Number κ) o c at.spares at.fits) in
         let st = subst (λ y. Stand C.words S.address pc (made_items (Of κ) y) at.then) x.is at.stands in
         let r = both_given κ pc at.then at.out x.operator x.target x.first x.second x.place s m ec h fit stays x.same st at.passes at.exit e n ls in
-        subst (λ z. Sim (holder S) κ m (begin (holder S) s) e n ls (did ((lang S).act z s) (meant (lang S) n (below (lang S) n) c))) (sym x.op)
-        (subst (λ d. Sim (holder S) κ m (begin (holder S) s) e n ls (did ((lang S).act op s) (meant (lang S) n (below (lang S) n) d))) (sym x.nodes) r)
+        subst (λ z. Sim (holder S) κ (Mach S κ) m (begin (holder S) s) e n ls (did ((lang S).act z s) (meant (lang S) n (below (lang S) n) c))) (sym x.op)
+        (subst (λ d. Sim (holder S) κ (Mach S κ) m (begin (holder S) s) e n ls (did ((lang S).act op s) (meant (lang S) n (below (lang S) n) d))) (sym x.nodes) r)
     | inr x ↦
         let op = TwoO x.operator x.target x.first x.second in
         let nodes = Do op (Return (Some x.place) x.behind) in
@@ -272,5 +272,5 @@ module _ (S : Setting) (fits : Fits S) where
         let there = eqb-true x.register 8 (second_on ((Of κ).registers == 8) (x.register == 8) x.spared) in
         let st = subst (λ y. Stand C.words S.address pc (made_items (Of κ) y) at.then) x.is at.stands in
         let r = known_given κ pc at.then at.out o x.register x.word x.operator x.target x.first x.second x.place x.with x.other s m ec h at.fits front.0 spared.0 x.put there x.works x.same st at.passes at.exit e n ls in
-        subst (λ d. Sim (holder S) κ m (begin (holder S) s) e n ls (did ((lang S).act o s) (meant (lang S) n (below (lang S) n) d))) (sym x.nodes) r
+        subst (λ d. Sim (holder S) κ (Mach S κ) m (begin (holder S) s) e n ls (did ((lang S).act o s) (meant (lang S) n (below (lang S) n) d))) (sym x.nodes) r
   ]

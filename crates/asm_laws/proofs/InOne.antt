@@ -23,6 +23,7 @@ use Rattle.asm_laws.specs.declared.used.Used.TheVariants.{Computed, Loaded, Inde
 use Rattle.asm_laws.specs.Pieces.{register, is_in, turned, other_word, loads_there}
 use Rattle.asm_laws.specs.Spare.{beside, operand, in_slots, at_address, at_sum, index, index_behind, indexed, offset_load, offset_sum, offset_step, offset_behind, offset, adds, element_behind, element, or_else, used_by}
 use Rattle.asm_laws.specs.Spare as spare
+use Rattle.asm_laws.specs.Live.{asked_behind}
 use Rattle.asm_laws.specs.Operations.{Frame, Whole, fetch, fetches, hand, op_items, word_put, first_word, summed, first_place, unturned, copied, copied_address, with_copy, with_sum, with_word, taken, brought, either, added, known, addend, using_it, is_spared, with_known, with_more, in_one, before_it, one_or_more, puts_items, led_items, group_items, given_first, made_both, made_known, made_with, first_made, made_of, made_items, made_or, next_items}
 use Rattle.asm_laws.specs.Operations as emitted
 use Rattle.asm_laws.specs.declared.copying.Copying.{Copying}
@@ -346,7 +347,7 @@ module _ (W : Whole) (F : Frame) (P : List AsmItem → Type 0) (V : ℕ → Type
   next_is o c f g one two both h = made_or_is o c (group_items W F o c) f g one two both h
 
 -- the same where operations before a loop that copies words are done one after another
-pub group_is : (W : Whole) (F : Frame) (P : List AsmItem → Type 0) (o : OpT Where) (c : NodesT Where) → P (one_or_more W F o (in_one W F o c)) → ((k : ℕ) (y : Copying) → lead (Do o c) ≡ Some (k, y) → P (puts_items W F y (Do o c) k ++ move_items y (Do o c))) → P (group_items W F o c)
+pub group_is : (W : Whole) (F : Frame) (P : List AsmItem → Type 0) (o : OpT Where) (c : NodesT Where) → P (one_or_more W F o (in_one W F o c)) → ((k : ℕ) (y : Copying) → lead (Do o c) ≡ Some (k, y) → P (puts_items W F y (asked_behind F.lasting c y.one) (Do o c) k ++ move_items y (Do o c))) → P (group_items W F o c)
 group_is W F P o c one puts = go (lead (Do o c)) refl
   where
     go : (x : Option (ℕ × Copying)) → lead (Do o c) ≡ x → P (led_items W F o c x)

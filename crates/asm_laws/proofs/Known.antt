@@ -31,7 +31,8 @@ use Rattle.mid_code.specs.Runs.{weight}
 use Rattle.asm_laws.specs.Labelled.{HasLabel}
 use Rattle.asm_laws.specs.Names.{jump_label, literal_label, function_label}
 use Rattle.asm_laws.specs.Moves.{Move, in_order}
-use Rattle.asm_laws.specs.Operations.{Frame, Whole, keep, fetches, keeps, keeps_some, hand, brings, takes, aim, lays, moves, changes, is_direct, in_place, apart, is_turned, turned_or_apart, computes, slot_arg, slot_args, moved_items, args_items, call_items, op_items, in_one, one_or_more, giving, start_frame, literal_items, literals_items, put_items, puts_items, group_items, giving_left, next_items, next_more}
+use Rattle.asm_laws.specs.Live.{asked_behind}
+use Rattle.asm_laws.specs.Operations.{Frame, Whole, keep, fetches, keeps, keeps_some, hand, brings, takes, aim, lays, moves, changes, is_direct, in_place, apart, is_turned, turned_or_apart, computes, slot_arg, slot_args, moved_items, args_items, call_items, op_items, in_one, one_or_more, giving, start_frame, literal_items, literals_items, word_items, put_items, puts_items, group_items, giving_left, next_items, next_more}
 use Rattle.asm_laws.specs.Pieces.{register, is_in, turned}
 use Rattle.asm_laws.specs.Framing.{frame_made, frame_gone}
 use Rattle.asm_laws.proofs.Leaving.{left_is}
@@ -41,8 +42,9 @@ use Rattle.asm_laws.specs.inner.Emitted.{labels, functions_labels, enclosing, ju
 use Rattle.asm_laws.proofs.Programs.{mapped_from}
 use Rattle.asm_laws.proofs.Walked.{total_more}
 use Rattle.asm_laws.specs.declared.copying.Copying.{Copying}
-use Rattle.asm_laws.specs.Copies.{goes_to, move_items, block_of, back_items, copy_at, copy_or}
-use Rattle.asm_laws.proofs.Putting.{moves_are}
+use Rattle.asm_laws.specs.Copies.{put_into, goes_to, move_items, copy_items, copy_at, copy_or}
+use Rattle.asm_laws.specs.Live.{live_soon, ahead}
+use Rattle.asm_laws.proofs.Putting.{unless_is, moves_are, backs_are}
 use Rattle.asm_laws.proofs.InOne.{TakesWord, one_or_more_is, group_is, next_is}
 use Rattle.asm_laws.proofs.Enclosing.{innermost, further}
 use Rattle.asm_laws.proofs.LabelKinds.{Differ}
@@ -223,28 +225,31 @@ module _ (x : CodeT Where) (W : Whole) (Q : List ℕ → Type 0) (of_function : 
   one_uses : (m : ℕ) (F : Frame) (o : OpT Where) (c : NodesT Where) → IsOp x m o → Uses Q (one_or_more W F o (in_one W F o c))
   one_uses m F o c ok = one_or_more_is W F (Uses Q) (λ v. Unit {0}) o c (λ t n e. (tt, tt, λ x y. tt)) (λ t k e. (tt, tt, λ x y. tt)) (op_uses m F o ok) taking_uses (λ p r i lt h. (fetch_uses F p r, taking_uses i h), λ r q i lr lq h. (tt, taking_uses i h))
 
-  put_uses : (F : Frame) (y : Copying) (o : OpT Where) → Uses Q (put_items W F y o)
-  put_uses F y (ConstO (Reg r) n) = (tt, tt)
-  put_uses F y (GlobalO (Reg r) k) = (tt, tt)
-  put_uses F y (LocalO (Reg r) k) = (tt, tt)
-  put_uses F y (MoveO (Reg r) p) = moves_uses F (Reg (goes_to y r)) p
-  put_uses F y _ = tt
+  word_uses : (F : Frame) (y : Copying) (o : OpT Where) → Uses Q (word_items W F y o)
+  word_uses F y (ConstO (Reg r) n) = (tt, tt)
+  word_uses F y (GlobalO (Reg r) k) = (tt, tt)
+  word_uses F y (LocalO (Reg r) k) = (tt, tt)
+  word_uses F y (MoveO (Reg r) p) = moves_uses F (Reg (goes_to y r)) p
+  word_uses F y _ = tt
 
-  puts_uses : (F : Frame) (y : Copying) (c : NodesT Where) (k : ℕ) → Uses Q (puts_items W F y c k)
-  puts_uses F y (Do o c) (suc k) = uses_append Q (put_items W F y o) (puts_items W F y c k) (put_uses F y o) (puts_uses F y c k)
-  puts_uses F y (Do o c) zero = tt
-  puts_uses F y Stop k = tt
-  puts_uses F y (Call t g args c) k = tt
-  puts_uses F y (Choose p a b c) k = tt
-  puts_uses F y (Block b c) k = tt
-  puts_uses F y (Loop b c) k = tt
-  puts_uses F y (Leave j c) k = tt
-  puts_uses F y (Again j c) k = tt
-  puts_uses F y (Return p c) k = tt
+  put_uses : (F : Frame) (y : Copying) (J : Bool) (o : OpT Where) → Uses Q (put_items W F y J o)
+  put_uses F y J o = unless_is (Uses Q) y J (put_into o) (word_items W F y o) tt (word_uses F y o)
+
+  puts_uses : (F : Frame) (y : Copying) (J : Bool) (c : NodesT Where) (k : ℕ) → Uses Q (puts_items W F y J c k)
+  puts_uses F y J (Do o c) (suc k) = uses_append Q (put_items W F y J o) (puts_items W F y J c k) (put_uses F y J o) (puts_uses F y J c k)
+  puts_uses F y J (Do o c) zero = tt
+  puts_uses F y J Stop k = tt
+  puts_uses F y J (Call t g args c) k = tt
+  puts_uses F y J (Choose p a b c) k = tt
+  puts_uses F y J (Block b c) k = tt
+  puts_uses F y J (Loop b c) k = tt
+  puts_uses F y J (Leave j c) k = tt
+  puts_uses F y J (Again j c) k = tt
+  puts_uses F y J (Return p c) k = tt
 
   group_uses : (m : ℕ) (F : Frame) (o : OpT Where) (c : NodesT Where) → IsOp x m o → Uses Q (group_items W F o c)
   group_uses m F o c ok = group_is W F (Uses Q) o c (one_uses m F o c ok)
-      (λ k y e. uses_append Q (puts_items W F y (Do o c) k) (move_items y (Do o c)) (puts_uses F y (Do o c) k) (moves_are (Uses Q) tt (uses_append Q) (λ t r. (tt, tt)) y (Do o c)))
+      (λ k y e. uses_append Q (puts_items W F y (asked_behind F.lasting c y.one) (Do o c) k) (move_items y (Do o c)) (puts_uses F y (asked_behind F.lasting c y.one) (Do o c) k) (moves_are (Uses Q) tt (uses_append Q) (λ t r. (tt, tt)) y (Do o c)))
 
   next_uses : (m : ℕ) (F : Frame) (o : OpT Where) (c : NodesT Where) → IsOp x m o → Uses Q (next_items W F o c)
   next_uses m F o c ok =
@@ -336,13 +341,12 @@ module _ (x : CodeT Where) (W : Whole) (Q : List ℕ → Type 0) (of_function : 
     looped_uses true n all part test ls few j k ua up ut = rotated_uses n part test ls few j k up ut
     looped_uses false n all part test ls few j k ua up ut = enclosed_uses n all ls few j k ua
 
-    back_uses : (f : Option ℕ) (y : Copying) → Uses Q (item.Op (instr.Plain (block_of f)) ∷ back_items f y)
-    back_uses None y = (tt, (tt, (tt, tt)))
-    back_uses (Some f) y = (tt, (tt, (tt, (tt, (tt, tt)))))
+    back_uses : (y : Copying) (J : ℕ → Bool) → Uses Q (copy_items y J)
+    back_uses y J = (tt, backs_are (Uses Q) tt (uses_append Q) y (λ r q lt. (tt, tt)) (tt, tt) (tt, tt) y.from J)
 
-    copied_uses : (y : Option Copying) (xs : List AsmItem) → Knows (copy_or y xs) → (Knows xs → Uses Q xs) → Uses Q (copy_or y xs)
-    copied_uses None xs k go = go k
-    copied_uses (Some y) xs k go = back_uses y.from y
+    copied_uses : (y : Option Copying) (J : ℕ → Bool) (xs : List AsmItem) → Knows (copy_or y J xs) → (Knows xs → Uses Q xs) → Uses Q (copy_or y J xs)
+    copied_uses None J xs k go = go k
+    copied_uses (Some y) J xs k go = back_uses y J
 
     again_uses : (ls : List ℕ) (k : ℕ) (last : Behind) → Q (jump_label (enclosing ls k)) → Uses Q (again ls k last)
     again_uses ls k last q = one_of_both ((k == 0) && is_turn last) [] (jump (enclosing ls k) ∷ []) tt (q, tt)
@@ -391,10 +395,11 @@ module _ (x : CodeT Where) (W : Whole) (Q : List ℕ → Type 0) (of_function : 
           let all = items_past W F out (inside (ends last c)) (ls ++ n ∷ []) (n + 2) b 0 in
           let part = part_items W F out (ls ++ n ∷ []) (n + 2) b in
           let test = test_items W F out (n + 2) b 0 in
-          let xs = copy_or (copy_at done b) (looped (is_tested b) n all part test) in
+          let asked = live_soon ahead F.lasting c in
+          let xs = copy_or (copy_at done b) asked (looped (is_tested b) n all part test) in
           let ys = items_past W F out last ls (n + (2 + labels b)) c 0 in
           uses_append Q xs ys
-          (copied_uses (copy_at done b) (looped (is_tested b) n all part test) (λ w h. k w (marked_left xs ys w h)) (λ known. looped_uses (is_tested b) n all part test ls (omega (arith, few)) j known (λ i h. past_uses m b 0 (inside (ends last c)) (true ∷ bs) (ls ++ n ∷ []) (n + 2) (deeper ls n bs true same) ok.0 (omega (arith, few)) i h)
+          (copied_uses (copy_at done b) asked (looped (is_tested b) n all part test) (λ w h. k w (marked_left xs ys w h)) (λ known. looped_uses (is_tested b) n all part test ls (omega (arith, few)) j known (λ i h. past_uses m b 0 (inside (ends last c)) (true ∷ bs) (ls ++ n ∷ []) (n + 2) (deeper ls n bs true same) ok.0 (omega (arith, few)) i h)
           (λ i h. part_uses m b (true ∷ bs) (ls ++ n ∷ []) (n + 2) (deeper ls n bs true same) ok.0 (omega (arith, few)) i h) (λ q. test_uses m (n + 2) b 0 (true ∷ bs) ok.0 q)))
           (past_uses m c 0 last bs ls (n + (2 + labels b)) same ok.1 (omega (arith, few)) j (λ w h. k w (marked_right xs ys w h)))
       past_uses m (Leave i c) done last bs ls n same ok few j k = ((j i (let l = ok.0 in omega (arith, l, same))).1, past_uses m c 0 last bs ls n same ok.1 few j k)

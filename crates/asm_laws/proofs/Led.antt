@@ -1,6 +1,6 @@
 -- The operations before a loop that copies words or fills them: what the machine's registers have behind them.
 use Rattle.std.proofs.Common.{◌≡◌, ◌≢◌, ℕ, zero, suc, ◌+◌, ◌<◌, ◌≤◌, ◌⊎◌, inl, inr, Bool, true, false, cond, List, [], ◌∷◌, ◌++◌, Option, Some, None, refl, sym, ap, ◌∙◌, subst, arith, append-nil, append_assoc}
-use Rattle.std.specs.Prelude.{◌==◌, ◌||◌, get_or, Ok}
+use Rattle.std.specs.Prelude.{◌&&◌, not, ◌==◌, ◌||◌, get_or, Ok}
 use Rattle.std.proofs.lemmas.Bool.{eqb-true}
 use Rattle.either.specs.declared.Either.TheVariants.{Left}
 use Rattle.v32_isa.specs.declared.instruction.Mov.TheVariants.{RegImm, RegReg}
@@ -30,7 +30,7 @@ use Rattle.obj_mem.specs.declared.cell.Cell.TheVariants.{Num, Ptr}
 use Rattle.obj_mem.specs.Stores.{local_object}
 use Rattle.obj_mem.specs.Queries.{first_cell}
 use Rattle.asm_laws.specs.declared.copying.Copying.{Copying}
-use Rattle.asm_laws.specs.Copies.{copy_of, put_into, is_from, is_moved, reads_moved, last_put, is_count, is_one, lead, goes_to, is_put, source_put, move_item, source}
+use Rattle.asm_laws.specs.Copies.{copy_of, put_into, is_from, is_moved, is_left, reads_moved, last_put, is_count, is_one, lead, goes_to, is_put, source_put, move_item, source}
 use Rattle.asm_laws.proofs.Leads.{copy_is, puts_before, puts_elim, some_put, put_elim, takes_moved, AllClear, lead_is}
 use Rattle.asm_laws.proofs.Leading.{next_sparing}
 use Rattle.asm_laws.proofs.Split.{split}
@@ -38,6 +38,7 @@ use Rattle.asm_laws.proofs.Spared.{uses_stay}
 use Rattle.asm_laws.proofs.KnownWords.{one_is, ops_ahead, Stored, counted, one_is_known, put_stored}
 use Rattle.asm_laws.proofs.Control.{came_came, came_final, earlier_did, did_more}
 use Rattle.asm_laws.specs.Pieces.{register, is_in}
+use Rattle.asm_laws.specs.Live.{live_soon, ahead, asked_behind}
 use Rattle.asm_laws.specs.Operations.{Frame, keep, local_word, moves, in_one, more_of, put_items, puts_items, led_items, led_more}
 use Rattle.asm_laws.specs.Operations as operations
 use Rattle.asm_laws.specs.Standing.{Stand}
@@ -77,8 +78,11 @@ pub record Roles (y : Copying) : Type 0 where
   pub count_eight : y.count ≢ 8
   pub to_count : y.to ≢ y.count
   pub from : (f : ℕ) → y.from ≡ Some f → (f < 9) × (f ≢ 8) × (f ≢ y.to) × (f ≢ y.count)
-  pub cell : y.from ≡ None → (y.cell < 9) × (y.cell ≢ 8) × (is_moved y y.cell ≡ false)
+  pub cell : y.from ≡ None → (y.cell < 9) × (y.cell ≢ 8) × (is_moved y y.cell ≡ false) × ((y.cell == y.one) ≡ false)
   pub one : y.one < 9
+  pub one_to : y.one ≢ y.to
+  pub one_count : y.one ≢ y.count
+  pub one_from : (f : ℕ) → y.from ≡ Some f → y.one ≢ f
 
 -- where an operation puts a word
 data Goes (y : Copying) (q t : ℕ) : Type 0 where
@@ -228,13 +232,13 @@ module _ (S : Setting) (fits : Fits S) (κ : Ctx) where
   SourceStood (Some f) b m registers w = Stood b m registers w 12 f
 
   -- among such operations: those of the addresses to write to and to read from and of the count that were put already
-  pub record Going (y : Copying) (a b d : Bool) (s : State Where) (m : machine.State) : Type 0 where
+  pub record Going (y : Copying) (J : Bool) (a b d : Bool) (s : State Where) (m : machine.State) : Type 0 where
     pub place : ℕ → ℕ
     pub words : Addr
     pub at : HoldsAt S κ s.world.store s.cells place words
     pub registers : ℕ → ℕ
     pub held : Held S.console (having registers words) m
-    pub like : (r : ℕ) → r < (S.whole.frames κ.fn).registers → is_moved y r ≡ false → registers r ≡ words.regs r
+    pub like : (r : ℕ) → r < (S.whole.frames κ.fn).registers → is_moved y r ≡ false → is_left y J r ≡ false → registers r ≡ words.regs r
     pub to : Stood a m registers words 13 y.to
     pub from : SourceStood y.from b m registers words
     pub count : Stood d m registers words 11 y.count
@@ -257,9 +261,9 @@ module _ (S : Setting) (fits : Fits S) (κ : Ctx) where
   source_on None x m u f g w q v h old = tt
   source_on (Some r) x m u f g w q v h old = stood_on x m u f g w 12 r q v (h r refl) old
 
-  put_on : (y : Copying) → Roles y → (a b d : Bool) (s t : State Where) (m : machine.State) (g : Going y a b d s m) (q v p : ℕ) → q < 9 → (mk : Made (having g.registers g.words) m p (goes_to y q) v) → Holds S κ t (with_reg q v g.words) →
-      Going y (a || (q == y.to)) (b || is_from y.from q) (d || (q == y.count)) t mk.to
-  put_on y ro a b d s t m g q v p lq mk h = go (goes_is y ro q)
+  put_on : (y : Copying) (J : Bool) → Roles y → (a b d : Bool) (s t : State Where) (m : machine.State) (g : Going y J a b d s m) (q v p : ℕ) → q < 9 → (mk : Made (having g.registers g.words) m p (goes_to y q) v) → Holds S κ t (with_reg q v g.words) →
+      Going y J (a || (q == y.to)) (b || is_from y.from q) (d || (q == y.count)) t mk.to
+  put_on y J ro a b d s t m g q v p lq mk h = go (goes_is y ro q)
     where
       w : Addr
       w = g.words
@@ -268,10 +272,10 @@ module _ (S : Setting) (fits : Fits S) (κ : Ctx) where
       apart : is_moved y q ≡ true → (r : ℕ) → is_moved y r ≡ false → r ≢ q
       apart is r free e = let z : true ≡ false = sym is ∙ ap (is_moved y) (sym e) ∙ free in absurd cc
 
-      stays : is_moved y q ≡ true → (r : ℕ) → r < (S.whole.frames κ.fn).registers → is_moved y r ≡ false → g.registers r ≡ (with_reg q v g.words).regs r
-      stays is r lt free = g.like r lt free ∙ sym (written_other g.words.regs q v r (apart is r free))
+      stays : is_moved y q ≡ true → (r : ℕ) → r < (S.whole.frames κ.fn).registers → is_moved y r ≡ false → is_left y J r ≡ false → g.registers r ≡ (with_reg q v g.words).regs r
+      stays is r lt free left = g.like r lt free left ∙ sym (written_other g.words.regs q v r (apart is r free))
 
-      go : Goes y q (goes_to y q) → Going y (a || (q == y.to)) (b || is_from y.from q) (d || (q == y.count)) t mk.to
+      go : Goes y q (goes_to y q) → Going y J (a || (q == y.to)) (b || is_from y.from q) (d || (q == y.count)) t mk.to
       go (IsTo e at is) = record {
         place = h.place;
         words = with_reg q v w;
@@ -311,14 +315,29 @@ module _ (S : Setting) (fits : Fits S) (κ : Ctx) where
         at = h.at;
         registers = written g.registers q v;
         held = subst (λ z. Held C (having (written g.registers z v) w) mk.to) at (mk.low (omega (arith, at, lq)));
-        like = λ r lt free. elim (same_or_not r q) [
+        like = λ r lt free left. elim (same_or_not r q) [
           | inl z ↦ written_same g.registers q v r z.0 ∙ sym (written_same w.regs q v r z.0)
-          | inr z ↦ written_other g.registers q v r z.0 ∙ g.like r lt free ∙ sym (written_other w.regs q v r z.0)
+          | inr z ↦ written_other g.registers q v r z.0 ∙ g.like r lt free left ∙ sym (written_other w.regs q v r z.0)
         ];
         to = stood_on a m mk.to g.registers (written g.registers q v) w 13 y.to q v (inr (nt, mk.other 13 (λ x. omega (arith, x, at, lq)), written_other g.registers q v y.to (λ z. nt (sym z)))) g.to;
         from = source_on y.from b m mk.to g.registers (written g.registers q v) w q v (λ f z. inr (nf f z, mk.other 12 (λ x. omega (arith, x, at, lq)), written_other g.registers q v f (λ x. nf f z (sym x)))) g.from;
         count = stood_on d m mk.to g.registers (written g.registers q v) w 11 y.count q v (inr (nc, mk.other 11 (λ x. omega (arith, x, at, lq)), written_other g.registers q v y.count (λ z. nc (sym z)))) g.count;
       }
+
+  -- nothing is put into a register that is left
+  left_on : (y : Copying) (J : Bool) → Roles y → (a b d : Bool) (s t : State Where) (m : machine.State) (g : Going y J a b d s m) (q v : ℕ) → q ≡ y.one → is_left y J q ≡ true → Holds S κ t (with_reg q v g.words) →
+      Going y J (a || (q == y.to)) (b || is_from y.from q) (d || (q == y.count)) t m
+  left_on y J ro a b d s t m g q v is left h = record {
+    place = h.place;
+    words = with_reg q v g.words;
+    at = h.at;
+    registers = g.registers;
+    held = g.held;
+    like = λ r lt free kept. g.like r lt free kept ∙ sym (written_other g.words.regs q v r (λ z. (let i : true ≡ false = sym left ∙ ap (is_left y J) (sym z) ∙ kept in absurd cc)));
+    to = stood_on a m m g.registers g.registers g.words 13 y.to q v (inr ((λ z. ro.one_to (sym is ∙ z)), refl, refl)) g.to;
+    from = source_on y.from b m m g.registers g.registers g.words q v (λ f z. inr ((λ i. ro.one_from f z (sym is ∙ i)), refl, refl)) g.from;
+    count = stood_on d m m g.registers g.registers g.words 11 y.count q v (inr ((λ z. ro.one_count (sym is ∙ z)), refl, refl)) g.count;
+  }
 
   goes_low : (y : Copying) → Roles y → (q : ℕ) → q < 9 → goes_to y q < 14
   goes_low y ro q lt = go (goes_is y ro q)
@@ -338,31 +357,61 @@ module _ (S : Setting) (fits : Fits S) (κ : Ctx) where
   abbrev StoredOn : OpT Where → ℕ → State Where → State Where → Type 0
   StoredOn o q s t = (r : ℕ) (x : Option ℕ) → Stored S r x s → Stored S r (cond (r == q) (known_put o) x) t
 
-  abbrev Behind : Copying → (a b d : Bool) → OpT Where → ℕ → State Where → State Where → machine.State → Type 0
-  Behind y a b d o q s t u = Going y (a || (q == y.to)) (b || is_from y.from q) (d || (q == y.count)) t u × StoredOn o q s t
+  abbrev Behind : Copying → (J : Bool) → (a b d : Bool) → OpT Where → ℕ → State Where → State Where → machine.State → Type 0
+  Behind y J a b d o q s t u = Going y J (a || (q == y.to)) (b || is_from y.from q) (d || (q == y.count)) t u × StoredOn o q s t
 
-  module _ (y : Copying) (ro : Roles y) (a b d : Bool) (s : State Where) (m : machine.State) (g : Going y a b d s m) (pc p : ℕ) (e : m.counter ≡ pc) where
+  module _ (y : Copying) (J : Bool) (ro : Roles y) (a b d : Bool) (s : State Where) (m : machine.State) (g : Going y J a b d s m) (pc p : ℕ) (e : m.counter ≡ pc) where
     abbrev real : Addr
     real = having g.registers g.words
 
     roomy : Room (S.whole.frames κ.fn) (having g.registers g.words)
     roomy = let r = room S fits κ s.world.store s.cells g.place g.words g.at in record { top = r.top; low = r.low; high = r.high }
 
+    -- the machine has gone on by a step at most, to where it stands so
+    record Gone (q v : ℕ) : Type 0 where
+      steps : ℕ
+      to : machine.State
+      by : (xs : List ℕ) → Reaches steps m xs [] to xs
+      at : to.counter ≡ p
+      few : steps ≤ 1
+      stands : (t : State Where) → Holds S κ t (with_reg q v g.words) → Going y J (a || (q == y.to)) (b || is_from y.from q) (d || (q == y.count)) t to
+
+    gone_by : (q v : ℕ) → q < 9 → Made (having g.registers g.words) m p (goes_to y q) v → Gone q v
+    gone_by q v lq mk = record { steps = mk.steps; to = mk.to; by = mk.by; at = mk.at; few = mk.few; stands = λ t h. put_on y J ro a b d s t m g q v p lq mk h }
+
+    gone_none : (q v : ℕ) → q ≡ y.one → is_left y J q ≡ true → pc ≡ p → Gone q v
+    gone_none q v is left here = record { steps = 0; to = m; by = λ xs. reaches_here m xs; at = e ∙ here; few = omega arith; stands = λ t h. left_on y J ro a b d s t m g q v is left h }
+
+    is_one_left : (q : ℕ) → is_left y J q ≡ true → q ≡ y.one
+    is_one_left q left = go (q == y.one) refl left
+      where
+        go : (x : Bool) → (q == y.one) ≡ x → x && not J ≡ true → q ≡ y.one
+        go true i w = eqb-true q y.one i
+        go false i w = absurd cc
+
+    -- by the items of an operation, or by none
+    goes_by : (q v : ℕ) (xs : List AsmItem) → q < 9 → Here pc (cond (is_left y J q) [] xs) p → (Here pc xs p → Made (having g.registers g.words) m p (goes_to y q) v) → Gone q v
+    goes_by q v xs lq st mk = go (is_left y J q) refl st
+      where
+        go : (x : Bool) → is_left y J q ≡ x → Here pc (cond x [] xs) p → Gone q v
+        go true left h = gone_none q v (is_one_left q left) left h
+        go false left h = gone_by q v lq (mk h)
+
     -- its work pays for a step, and 7 are spare
-    led_by : (o : OpT Where) (q v : ℕ) → op_weight o ≡ 8 → q < 9 → Made (having g.registers g.words) m p (goes_to y q) v → does S.console S.address S.whole (S.whole.frames κ.fn) o s.world.store.answers g.words ≡ words.Goes [] s.world.store.answers (with_reg q v g.words) → Fitting S κ.fn o → ((t : State Where) → (lang S).act o s ≡ On t → StoredOn o q s t) →
-        DidBy (holder S) m (spare 7 (begin (holder S) s)) p (Behind y a b d o q s) ((lang S).act o s)
-    led_by o q v eight lq mk is fit keeps =
+    led_by : (o : OpT Where) (q v : ℕ) → op_weight o ≡ 8 → Gone q v → does S.console S.address S.whole (S.whole.frames κ.fn) o s.world.store.answers g.words ≡ words.Goes [] s.world.store.answers (with_reg q v g.words) → Fitting S κ.fn o → ((t : State Where) → (lang S).act o s ≡ On t → StoredOn o q s t) →
+        DidBy (holder S) m (spare 7 (begin (holder S) s)) p (Behind y J a b d o q s) ((lang S).act o s)
+    led_by o q v eight mk is fit keeps =
         let s1 = spent (op_weight o) s in
         cases ((lang S).act o s) refl (subst (λ z. DoesAs S κ s1 g.words (acted registers_and_slots (sizes S) o s1) z) is (acts S fits κ s1 g.place g.words g.at o fit))
       where
-        cases : (r : Did (State Where)) → (lang S).act o s ≡ r → DoesAs S κ (spent (op_weight o) s) g.words r (words.Goes [] s.world.store.answers (with_reg q v g.words)) → DidBy (holder S) m (spare 7 (begin (holder S) s)) p (Behind y a b d o q s) r
+        cases : (r : Did (State Where)) → (lang S).act o s ≡ r → DoesAs S κ (spent (op_weight o) s) g.words r (words.Goes [] s.world.store.answers (with_reg q v g.words)) → DidBy (holder S) m (spare 7 (begin (holder S) s)) p (Behind y J a b d o q s) r
         cases (On t) q0 k = record {
           steps = mk.steps;
           made = [];
           to = mk.to;
           by = subst (λ xs. Reaches mk.steps m s.world.store.answers [] mk.to xs) k.answers (mk.by s.world.store.answers);
           at = mk.at;
-          held = (put_on y ro a b d s t m g q v p lq mk k.holds, keeps t q0);
+          held = (mk.stands t k.holds, keeps t q0);
           events = k.events;
           cost = let w = k.work in let few = mk.few in omega (arith, w, few, eight);
           many = omega arith;
@@ -376,16 +425,16 @@ module _ (S : Setting) (fits : Fits S) (κ : Ctx) where
 
     -- the word of a place from which it may be taken
     same_word : (x : Where) → Stays (S.whole.frames κ.fn).registers x → reads_moved y x ≡ false → word_of (S.whole.frames κ.fn) x (having g.registers g.words) ≡ word_of (S.whole.frames κ.fn) x g.words
-    same_word (Reg q) stays free = g.like q stays free
+    same_word (Reg q) stays free = let f = off (is_moved y q) (q == y.one) free in g.like q stays f.0 (ap (λ b. b && not J) f.1)
     same_word (Slot k) stays free = refl
 
-    one_led : (o : OpT Where) (q : ℕ) → put_into o ≡ Some q → Fitting S κ.fn o → AllOf (Stays (S.whole.frames κ.fn).registers) (uses o) → takes_moved y o ≡ false → Here pc (put_items S.whole (S.whole.frames κ.fn) y o) p → DidBy (holder S) m (spare 7 (begin (holder S) s)) p (Behind y a b d o q s) ((lang S).act o s)
+    one_led : (o : OpT Where) (q : ℕ) → put_into o ≡ Some q → Fitting S κ.fn o → AllOf (Stays (S.whole.frames κ.fn).registers) (uses o) → takes_moved y o ≡ false → Here pc (put_items S.whole (S.whole.frames κ.fn) y J o) p → DidBy (holder S) m (spare 7 (begin (holder S) s)) p (Behind y J a b d o q s) ((lang S).act o s)
     unfolding does
-    one_led = put_elim (λ o q. Fitting S κ.fn o → AllOf (Stays (S.whole.frames κ.fn).registers) (uses o) → takes_moved y o ≡ false → Here pc (put_items S.whole (S.whole.frames κ.fn) y o) p → DidBy (holder S) m (spare 7 (begin (holder S) s)) p (Behind y a b d o q s) ((lang S).act o s))
-        (λ q n fit stays free st. led_by (ConstO (Reg q) n) q n refl fit (const_made real m pc p (goes_to y q) n (goes_low y ro q fit) g.held e st) refl fit (λ t z r x. put_stored S r q x (Some n) (spent 8 s) t (Ok (Num n)) (λ j i. (let w : n ≡ j = cc in ap (λ k. Ok (Num k)) w)) z))
-        (λ q k fit stays free st. led_by (GlobalO (Reg q) k) q (get_or S.whole.globals k 0) refl fit.0 (const_made real m pc p (goes_to y q) (get_or S.whole.globals k 0) (goes_low y ro q fit.0) g.held e st) refl fit (λ t z r x. put_stored S r q x None (spent 8 s) t (Ok (Ptr k 0)) (λ j i. absurd cc) z))
-        (λ q k fit stays free st. led_by (LocalO (Reg q) k) q (local_address F k g.words) refl fit.0 (local_made real m pc p (goes_to y q) k roomy fit.2 (goes_low y ro q fit.0) g.held e st) refl fit (λ t z r x. put_stored S r q x None (spent 8 s) t (first_cell (local_object s.world.store.locals k)) (λ j i. absurd cc) z))
-        (λ q x fit stays free st. led_by (MoveO (Reg q) x) q (word_of F x g.words) refl fit.0 (subst (λ v. Made real m p (goes_to y q) v) (same_word x stays.0 free) (move_made real m pc p (goes_to y q) x roomy (good S fits κ x fit.1) (goes_low y ro q fit.0) g.held e st)) refl fit (λ t z r w. put_stored S r q w None (spent 8 s) t (Ok (s.cells x)) (λ j i. absurd cc) z))
+    one_led = put_elim (λ o q. Fitting S κ.fn o → AllOf (Stays (S.whole.frames κ.fn).registers) (uses o) → takes_moved y o ≡ false → Here pc (put_items S.whole (S.whole.frames κ.fn) y J o) p → DidBy (holder S) m (spare 7 (begin (holder S) s)) p (Behind y J a b d o q s) ((lang S).act o s))
+        (λ q n fit stays free st. led_by (ConstO (Reg q) n) q n refl (goes_by q n _ fit st (λ i. const_made real m pc p (goes_to y q) n (goes_low y ro q fit) g.held e i)) refl fit (λ t z r x. put_stored S r q x (Some n) (spent 8 s) t (Ok (Num n)) (λ j i. (let w : n ≡ j = cc in ap (λ k. Ok (Num k)) w)) z))
+        (λ q k fit stays free st. led_by (GlobalO (Reg q) k) q (get_or S.whole.globals k 0) refl (goes_by q (get_or S.whole.globals k 0) _ fit.0 st (λ i. const_made real m pc p (goes_to y q) (get_or S.whole.globals k 0) (goes_low y ro q fit.0) g.held e i)) refl fit (λ t z r x. put_stored S r q x None (spent 8 s) t (Ok (Ptr k 0)) (λ j i. absurd cc) z))
+        (λ q k fit stays free st. led_by (LocalO (Reg q) k) q (local_address F k g.words) refl (goes_by q (local_address F k g.words) _ fit.0 st (λ i. local_made real m pc p (goes_to y q) k roomy fit.2 (goes_low y ro q fit.0) g.held e i)) refl fit (λ t z r x. put_stored S r q x None (spent 8 s) t (first_cell (local_object s.world.store.locals k)) (λ j i. absurd cc) z))
+        (λ q x fit stays free st. led_by (MoveO (Reg q) x) q (word_of F x g.words) refl (goes_by q (word_of F x g.words) _ fit.0 st (λ i. subst (λ v. Made real m p (goes_to y q) v) (same_word x stays.0 free) (move_made real m pc p (goes_to y q) x roomy (good S fits κ x fit.1) (goes_low y ro q fit.0) g.held e i))) refl fit (λ t z r w. put_stored S r q w None (spent 8 s) t (Ok (s.cells x)) (λ j i. absurd cc) z))
 
   -- ---- what is not put is moved behind them
 
@@ -453,28 +502,28 @@ module _ (S : Setting) (fits : Fits S) (κ : Ctx) where
 
   abbrev LedBy : NodesT Where → ℕ → Copying → Type 0
   LedBy c k y = (a b d : Bool) (x z : Option ℕ) (s : State Where) (m : machine.State) (pc p : ℕ) → Roles y → FrontFits S κ.fn c (suc k) → Sparing (S.whole.frames κ.fn).registers c zero → AllClear y c k →
-      Here pc (puts_items S.whole (S.whole.frames κ.fn) y c k ++ moves_of y a b d c) p → m.counter ≡ pc → Going y a b d s m → Stored S y.count x s → Stored S y.one z s → is_count (last_put y.count c x) ≡ true → is_one (last_put y.one c z) ≡ true →
+      Here pc (puts_items S.whole (S.whole.frames κ.fn) y (asked_behind (S.whole.frames κ.fn).lasting c y.one) c k ++ moves_of y a b d c) p → m.counter ≡ pc → Going y (asked_behind (S.whole.frames κ.fn).lasting c y.one) a b d s m → Stored S y.count x s → Stored S y.one z s → is_count (last_put y.count c x) ≡ true → is_one (last_put y.one c z) ≡ true →
       DidIn m (begin (holder S) s) p (slack k) (at_front (holder S) κ c (suc k)) (front_acts (lang S) c (suc k) s)
 
   -- the register that is read from, or the word of a fill
-  source_of : (l c : NodesT Where) (y : Copying) (ro : Roles y) (a b d : Bool) (s : State Where) (m : machine.State) (g : Going y a b d s m) (n : (S.whole.frames κ.fn).registers ≡ 9 ⊎ (S.whole.frames κ.fn).registers ≡ 8) (from : Option ℕ) → y.from ≡ from → SourceStood from b m g.registers g.words →
+  source_of : (l c : NodesT Where) (y : Copying) (J : Bool) (ro : Roles y) (a b d : Bool) (s : State Where) (m : machine.State) (g : Going y J a b d s m) (n : (S.whole.frames κ.fn).registers ≡ 9 ⊎ (S.whole.frames κ.fn).registers ≡ 8) (from : Option ℕ) → y.from ≡ from → SourceStood from b m g.registers g.words →
       (source from y < 9) × Stood (source_put from b (Loop l c)) m g.registers g.words 12 (source from y)
   unfolding is_put
-  source_of l c y ro a b d s m g n None e h =
+  source_of l c y J ro a b d s m g n None e h =
       let w = ro.cell e in
-      (w.0, g.like y.cell (elim n [ inl z ↦ (let lt = w.0 in omega (arith, z, lt)) | inr z ↦ (let lt = w.0 in let ne = w.1 in omega (arith, z, lt, ne)) ]) w.2)
-  source_of l c y ro a b d s m g n (Some f) e h = ((ro.from f e).0, h)
+      (w.0, g.like y.cell (elim n [ inl z ↦ (let lt = w.0 in omega (arith, z, lt)) | inr z ↦ (let lt = w.0 in let ne = w.1 in omega (arith, z, lt, ne)) ]) w.2 (ap (λ b. b && not J) w.3))
+  source_of l c y J ro a b d s m g n (Some f) e h = ((ro.from f e).0, h)
 
   -- the machine stands at the block move
-  base_led : (l c : NodesT Where) (y : Copying) (ro : Roles y) (a b d : Bool) (s : State Where) (m : machine.State) (pc p : ℕ) → ((S.whole.frames κ.fn).registers ≡ 9 ⊎ (S.whole.frames κ.fn).registers ≡ 8) → m.counter ≡ pc → Going y a b d s m → (n : ℕ) × (s.cells (Reg y.count) ≡ Num n) × (is_count (Some n) ≡ true) → s.cells (Reg y.one) ≡ Num 1 → Here pc (moves_of y a b d (Loop l c)) p →
-      Came (holder S) m (begin (holder S) s) s p 0 3 (ReadyFor S κ y s)
+  base_led : (l c : NodesT Where) (y : Copying) (J : Bool) (ro : Roles y) (a b d : Bool) (s : State Where) (m : machine.State) (pc p : ℕ) → ((S.whole.frames κ.fn).registers ≡ 9 ⊎ (S.whole.frames κ.fn).registers ≡ 8) → m.counter ≡ pc → Going y J a b d s m → (n : ℕ) × (s.cells (Reg y.count) ≡ Num n) × (is_count (Some n) ≡ true) → s.cells (Reg y.one) ≡ Num 1 → Here pc (moves_of y a b d (Loop l c)) p →
+      Came (holder S) m (begin (holder S) s) s p 0 3 (ReadyFor S κ y J s)
   unfolding is_put
-  base_led l c y ro a b d s m pc p nine e g known one st =
+  base_led l c y J ro a b d s m pc p nine e g known one st =
       let xs = s.world.store.answers in
       let real = having g.registers g.words in
       let i = split C.words S.address (move_item a 13 y.to) (move_item (source_put y.from b (Loop l c)) 12 (source y.from y) ++ move_item d 11 y.count) pc p st in
       let j = split C.words S.address (move_item (source_put y.from b (Loop l c)) 12 (source y.from y)) (move_item d 11 y.count) i.0 p i.2 in
-      let so = source_of l c y ro a b d s m g nine y.from refl g.from in
+      let so = source_of l c y J ro a b d s m g nine y.from refl g.from in
       let l1 = load_one a g.registers g.words m pc i.0 13 y.to refl (omega arith) (omega arith) ro.to g.held e i.1 g.to in
       let l2 = load_one (source_put y.from b (Loop l c)) g.registers g.words l1.to i.0 j.0 12 (source y.from y) refl (omega arith) (omega arith) so.0 l1.held l1.at j.1 (stood_by (source_put y.from b (Loop l c)) m l1.to g.registers g.words 12 (source y.from y) (l1.other 12 (omega arith)) so.1) in
       let l3 = load_one d g.registers g.words l2.to j.0 p 11 y.count refl (omega arith) (omega arith) ro.count l2.held l2.at j.2 (stood_by d m l2.to g.registers g.words 11 y.count (l2.other 11 (omega arith) ∙ l1.other 11 (omega arith)) g.count) in
@@ -517,24 +566,25 @@ module _ (S : Setting) (fits : Fits S) (κ : Ctx) where
   unfolding is_put last_put
   puts_led = puts_elim LedBy
       (λ l c y q a b d x z s m pc p ro ff sp cl st e g hx hz ec eo.
-      let w = base_led l c y ro a b d s m pc p (nine_or_eight (Loop l c) sp) e g (counted S x y.count s hx ec) (one_is_known S z y.one s hz eo) st in
-      subst (λ h. Came (holder S) m (begin (holder S) s) s p 0 3 (Ready S κ h s)) (sym q) w)
+      let w = base_led l c y (live_soon ahead (S.whole.frames κ.fn).lasting c y.one) ro a b d s m pc p (nine_or_eight (Loop l c) sp) e g (counted S x y.count s hx ec) (one_is_known S z y.one s hz eo) st in
+      subst (λ h. Came (holder S) m (begin (holder S) s) s p 0 3 (Ready S κ (live_soon ahead (S.whole.frames κ.fn).lasting c) h s)) (sym q) w)
       (λ o r c k y put q h a b d x z s m pc p ro ff sp cl st e g hx hz ec eo.
-      let there = items_on y o r c k a b d put in
-      let i = split C.words S.address (put_items S.whole F y o) (puts_items S.whole F y c k ++ moves_of y (a || (r == y.to)) (b || is_from y.from r) (d || (r == y.count)) c) pc p (subst (λ l. Here pc l p) there st) in
-      led_on m (begin (holder S) s) i.0 p (slack k) (Behind y a b d o r s) (at_front (holder S) κ c (suc k)) ((lang S).act o s) (front_acts (lang S) c (suc k)) (slack_few k)
-      (one_led y ro a b d s m g pc i.0 e o r put ff.0 (uses_stay S κ.fn (S.whole.frames κ.fn).registers o c sp ff.0) cl.0 i.1)
+      let J = asked_behind (S.whole.frames κ.fn).lasting c y.one in
+      let there = items_on y J o r c k a b d put in
+      let i = split C.words S.address (put_items S.whole F y J o) (puts_items S.whole F y J c k ++ moves_of y (a || (r == y.to)) (b || is_from y.from r) (d || (r == y.count)) c) pc p (subst (λ l. Here pc l p) there st) in
+      led_on m (begin (holder S) s) i.0 p (slack k) (Behind y J a b d o r s) (at_front (holder S) κ c (suc k)) ((lang S).act o s) (front_acts (lang S) c (suc k)) (slack_few k)
+      (one_led y J ro a b d s m g pc i.0 e o r put ff.0 (uses_stay S κ.fn (S.whole.frames κ.fn).registers o c sp ff.0) cl.0 i.1)
       (λ t u eu hu. h (a || (r == y.to)) (b || is_from y.from r) (d || (r == y.count)) (cond (y.count == r) (known_put o) x) (cond (y.one == r) (known_put o) z) t u i.0 p ro ff.1 (next_sparing (S.whole.frames κ.fn).registers o c k y q sp) cl.1 i.2 eu hu.0 (hu.1 y.count x hx) (hu.1 y.one z hz)
       (ap is_count (sym (last_seen o r put y.count x c)) ∙ ec) (ap is_one (sym (last_seen o r put y.one z c)) ∙ eo)))
     where
-      items_on : (y : Copying) (o : OpT Where) (r : ℕ) (c : NodesT Where) (k : ℕ) (a b d : Bool) → put_into o ≡ Some r → puts_items S.whole (S.whole.frames κ.fn) y (Do o c) (suc k) ++ moves_of y a b d (Do o c)
-          ≡ put_items S.whole (S.whole.frames κ.fn) y o ++ (puts_items S.whole (S.whole.frames κ.fn) y c k ++ moves_of y (a || (r == y.to)) (b || is_from y.from r) (d || (r == y.count)) c)
-      items_on y o r c k a b d put =
+      items_on : (y : Copying) (J : Bool) (o : OpT Where) (r : ℕ) (c : NodesT Where) (k : ℕ) (a b d : Bool) → put_into o ≡ Some r → puts_items S.whole (S.whole.frames κ.fn) y J (Do o c) (suc k) ++ moves_of y a b d (Do o c)
+          ≡ put_items S.whole (S.whole.frames κ.fn) y J o ++ (puts_items S.whole (S.whole.frames κ.fn) y J c k ++ moves_of y (a || (r == y.to)) (b || is_from y.from r) (d || (r == y.count)) c)
+      items_on y J o r c k a b d put =
           let e1 = put_seen o r put y.to a c in
           let e2 = source_seen y.from o r put b c in
           let e3 = put_seen o r put y.count d c in
-          append_assoc (put_items S.whole F y o) (puts_items S.whole F y c k) (moves_of y a b d (Do o c))
-          ∙ (λ i. put_items S.whole F y o ++ (puts_items S.whole F y c k ++ (move_item (e1 i) 13 y.to ++ (move_item (e2 i) 12 (source y.from y) ++ move_item (e3 i) 11 y.count))))
+          append_assoc (put_items S.whole F y J o) (puts_items S.whole F y J c k) (moves_of y a b d (Do o c))
+          ∙ (λ i. put_items S.whole F y J o ++ (puts_items S.whole F y J c k ++ (move_item (e1 i) 13 y.to ++ (move_item (e2 i) 12 (source y.from y) ++ move_item (e3 i) 11 y.count))))
 
   -- ---- the registers of such a loop
 
@@ -556,6 +606,9 @@ module _ (S : Setting) (fits : Fits S) (κ : Ctx) where
           from = λ f z. (let w : v.from ≡ f = cc in subst (λ x. (x < 9) × (x ≢ 8) × (x ≢ v.to) × (x ≢ v.count)) w (n.0.0.0, a.from_eight, a.from_to, a.from_count));
           cell = λ z. absurd cc;
           one = n.1.1.0.0.1.0;
+          one_to = λ z. a.four.to_one (sym z);
+          one_count = λ z. a.four.count_one (sym z);
+          one_from = λ f z. (let w : v.from ≡ f = cc in subst (λ x. v.one ≢ x) w (λ i. a.from_one (sym i)));
         })
     | inr q ↦
         let v = q.registers in
@@ -568,8 +621,11 @@ module _ (S : Setting) (fits : Fits S) (κ : Ctx) where
           count_eight = a.count_eight;
           to_count = a.to_count;
           from = λ f z. absurd cc;
-          cell = λ z. (n.0.0.1.0, a.cell_eight, (let e1 = apart_from v.cell v.to (λ x. a.to_cell (sym x)) in let e2 = apart_from v.cell v.count a.cell_count in λ i. e1 i || (false || e2 i)));
+          cell = λ z. (n.0.0.1.0, a.cell_eight, (let e1 = apart_from v.cell v.to (λ x. a.to_cell (sym x)) in let e2 = apart_from v.cell v.count a.cell_count in λ i. e1 i || (false || e2 i)), apart_from v.cell v.one a.cell_one);
           one = n.1.0.0.1.0;
+          one_to = λ z. a.to_one (sym z);
+          one_count = λ z. a.count_one (sym z);
+          one_from = λ f z. absurd cc;
         })
   ]
 
@@ -593,14 +649,14 @@ module _ (S : Setting) (fits : Fits S) (κ : Ctx) where
       reads_from y ro None q = tt
       reads_from y ro (Some f) q = let r = ro.from f q in h.like f (low f r.0 r.1)
 
-      begins : (y : Copying) → Roles y → Going y false false false s m
+      begins : (y : Copying) → Roles y → Going y (asked_behind (S.whole.frames κ.fn).lasting c y.one) false false false s m
       begins y ro = record {
         place = h.place;
         words = h.words;
         at = h.at;
         registers = h.registers;
         held = h.held;
-        like = λ r lt free. h.like r lt;
+        like = λ r lt free left. h.like r lt;
         to = h.like y.to (low y.to ro.to ro.to_eight);
         from = reads_from y ro y.from refl;
         count = h.like y.count (low y.count ro.count ro.count_eight);

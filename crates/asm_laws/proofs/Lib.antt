@@ -15,6 +15,7 @@ pub mod Led
 pub mod Leading
 pub mod BlockMove
 pub mod Copied
+pub mod PutBack
 pub mod CopyLoop
 pub mod Filled
 pub mod FillLoop
@@ -33,6 +34,10 @@ pub mod Frames
 pub mod Parts
 pub mod GivenBack
 pub mod Calls
+pub mod Likeness
+pub mod LiveParts
+pub mod LiveSims
+pub mod Lasting
 pub mod Whole
 pub mod Opening
 pub mod Agreeing

@@ -15,15 +15,17 @@ use Rattle.mid_code.specs.declared.placed.Where.TheVariants.{Reg, Slot}
 use Rattle.mid_code.specs.Code.{OpT, ConstO, NullO, MoveO, OneO, TwoO, GlobalO, LocalO, LiteralO, CardO, StepO, ApartO, PtrTestO, LoadO, StoreO, FreshO, EndO, InO, OutO, WaitO, HaltO, NodesT, Stop, Do, Call, Choose, Block, Loop, Leave, Again, Return, FunctionT, CodeT}
 use Rattle.asm_laws.specs.Names.{function_label, literal_label}
 use Rattle.asm_laws.specs.Moves.{Move, in_order}
-use Rattle.asm_laws.specs.Operations.{Frame, Whole, keep, fetches, keeps_some, hand, brings, takes, aim, lays, moves, changes, is_direct, in_place, apart, is_turned, turned_or_apart, computes, slot_arg, slot_args, moved_items, args_items, call_items, op_items, in_one, one_or_more, giving, start_frame, literal_items, literals_items, put_items, puts_items, group_items, giving_left, next_items, next_more}
+use Rattle.asm_laws.specs.Live.{asked_behind}
+use Rattle.asm_laws.specs.Operations.{Frame, Whole, keep, fetches, keeps_some, hand, brings, takes, aim, lays, moves, changes, is_direct, in_place, apart, is_turned, turned_or_apart, computes, slot_arg, slot_args, moved_items, args_items, call_items, op_items, in_one, one_or_more, giving, start_frame, literal_items, literals_items, word_items, put_items, puts_items, group_items, giving_left, next_items, next_more}
 use Rattle.asm_laws.specs.Pieces.{register, is_in, turned}
 use Rattle.asm_laws.specs.Framing.{frame_made, frame_gone}
 use Rattle.asm_laws.specs.declared.behind.Behind.{Behind}
 use Rattle.asm_laws.specs.declared.behind.Behind.TheVariants.{Other, End, Turn}
 use Rattle.asm_laws.specs.inner.Emitted.{labels, functions_labels, enclosing, jump, jump_unless, mark, choice, one_way, alone, left_to, ends, jump_when, is_stop, enclosed, leaving, left_by, items_past, code_items, entry_items, exit_items, function_items, functions_items, closing_items, start_items, program_items, labels_of, inside, is_end, is_turn, again, rotated, looped, is_tested, part_items, test_items}
 use Rattle.asm_laws.specs.declared.copying.Copying.{Copying}
-use Rattle.asm_laws.specs.Copies.{goes_to, move_items, block_of, back_items, copy_items, copy_at, copy_or}
-use Rattle.asm_laws.proofs.Putting.{moves_are}
+use Rattle.asm_laws.specs.Copies.{put_into, goes_to, move_items, copy_items, copy_at, copy_or}
+use Rattle.asm_laws.specs.Live.{live_soon, ahead}
+use Rattle.asm_laws.proofs.Putting.{unless_is, moves_are, backs_are}
 use Rattle.asm_laws.proofs.InOne.{one_or_more_is, group_is, next_is}
 use Rattle.asm_laws.proofs.LabelKinds.{Differ, Kind, Jump, Fun, Text, name_of, Valid, kind_same, Range, Box, Within, Aside, jumps, jumps_within, jumps_below, jumps_above}
 
@@ -199,27 +201,30 @@ module _ (W : Whole) (differ : Differ W.names) where
   one_bare : (F : Frame) (o : OpT Where) (c : NodesT Where) → Bare (one_or_more W F o (in_one W F o c))
   one_bare F o c = one_or_more_is W F (λ xs. Bare xs) (λ v. Unit {0}) o c (λ t n e. (tt, tt, λ x y. tt)) (λ t k e. (tt, tt, λ x y. tt)) (op_bare F o) (λ i h. tt) (λ p r i lt h. tt, λ r q i lr lq h. tt)
 
-  put_bare : (F : Frame) (y : Copying) (o : OpT Where) → Bare (put_items W F y o)
-  put_bare F y (ConstO (Reg r) n) = tt
-  put_bare F y (GlobalO (Reg r) k) = tt
-  put_bare F y (LocalO (Reg r) k) = tt
-  put_bare F y (MoveO (Reg r) p) = moves_bare F (Reg (goes_to y r)) p
-  put_bare F y _ = tt
+  word_bare : (F : Frame) (y : Copying) (o : OpT Where) → Bare (word_items W F y o)
+  word_bare F y (ConstO (Reg r) n) = tt
+  word_bare F y (GlobalO (Reg r) k) = tt
+  word_bare F y (LocalO (Reg r) k) = tt
+  word_bare F y (MoveO (Reg r) p) = moves_bare F (Reg (goes_to y r)) p
+  word_bare F y _ = tt
 
-  puts_bare : (F : Frame) (y : Copying) (c : NodesT Where) (k : ℕ) → Bare (puts_items W F y c k)
-  puts_bare F y (Do o c) (suc k) = names_append (λ m. ⊥) (put_items W F y o) (puts_items W F y c k) (put_bare F y o) (puts_bare F y c k)
-  puts_bare F y (Do o c) zero = tt
-  puts_bare F y Stop k = tt
-  puts_bare F y (Call t g args c) k = tt
-  puts_bare F y (Choose p a b c) k = tt
-  puts_bare F y (Block b c) k = tt
-  puts_bare F y (Loop b c) k = tt
-  puts_bare F y (Leave j c) k = tt
-  puts_bare F y (Again j c) k = tt
-  puts_bare F y (Return p c) k = tt
+  put_bare : (F : Frame) (y : Copying) (J : Bool) (o : OpT Where) → Bare (put_items W F y J o)
+  put_bare F y J o = unless_is Bare y J (put_into o) (word_items W F y o) tt (word_bare F y o)
+
+  puts_bare : (F : Frame) (y : Copying) (J : Bool) (c : NodesT Where) (k : ℕ) → Bare (puts_items W F y J c k)
+  puts_bare F y J (Do o c) (suc k) = names_append (λ m. ⊥) (put_items W F y J o) (puts_items W F y J c k) (put_bare F y J o) (puts_bare F y J c k)
+  puts_bare F y J (Do o c) zero = tt
+  puts_bare F y J Stop k = tt
+  puts_bare F y J (Call t g args c) k = tt
+  puts_bare F y J (Choose p a b c) k = tt
+  puts_bare F y J (Block b c) k = tt
+  puts_bare F y J (Loop b c) k = tt
+  puts_bare F y J (Leave j c) k = tt
+  puts_bare F y J (Again j c) k = tt
+  puts_bare F y J (Return p c) k = tt
 
   group_bare : (F : Frame) (o : OpT Where) (c : NodesT Where) → Bare (group_items W F o c)
-  group_bare F o c = group_is W F (λ xs. Bare xs) o c (one_bare F o c) (λ k y e. names_append (λ m. ⊥) (puts_items W F y (Do o c) k) (move_items y (Do o c)) (puts_bare F y (Do o c) k) (moves_are (λ xs. Bare xs) tt (names_append (λ m. ⊥)) (λ t r. tt) y (Do o c)))
+  group_bare F o c = group_is W F (λ xs. Bare xs) o c (one_bare F o c) (λ k y e. names_append (λ m. ⊥) (puts_items W F y (asked_behind F.lasting c y.one) (Do o c) k) (move_items y (Do o c)) (puts_bare F y (asked_behind F.lasting c y.one) (Do o c) k) (moves_are (λ xs. Bare xs) tt (names_append (λ m. ⊥)) (λ t r. tt) y (Do o c)))
 
   next_bare : (F : Frame) (o : OpT Where) (c : NodesT Where) → Bare (next_items W F o c)
   next_bare F o c = next_is W F (λ xs. Bare xs) (λ v. Unit {0}) o c (λ t n e. (tt, tt, λ x y. tt)) (λ t k e. (tt, tt, λ x y. tt)) (λ i h. tt) (λ p r i lt h. tt, λ r q i lr lq h. tt) (λ u t a b e. brought_bare F b 10 _ tt) (group_bare F o c)
@@ -282,13 +287,12 @@ module _ (W : Whole) (differ : Differ W.names) where
   looped_marks true n e all part test x few ma mp bt = let r = mp refl in rotated_marks n e part test r.0 few r.1 bt
   looped_marks false n e all part test x few ma mp bt = enclosed_marks n e all x few ma
 
-  copy_bare : (f : Option ℕ) (y : Copying) → Bare (item.Op (instr.Plain (block_of f)) ∷ back_items f y)
-  copy_bare None y = tt
-  copy_bare (Some f) y = tt
+  copy_bare : (y : Copying) (J : ℕ → Bool) → Bare (copy_items y J)
+  copy_bare y J = backs_are (λ xs. Bare xs) tt (names_append (λ m. ⊥)) y (λ r q lt. tt) tt tt y.from J
 
-  copied_marks : (y : Option Copying) (r : Range) (xs : List AsmItem) → Marks r xs → Marks r (copy_or y xs)
-  copied_marks None r xs m = m
-  copied_marks (Some y) r xs m = marks_bare r (copy_items y) (copy_bare y.from y)
+  copied_marks : (y : Option Copying) (J : ℕ → Bool) (r : Range) (xs : List AsmItem) → Marks r xs → Marks r (copy_or y J xs)
+  copied_marks None J r xs m = m
+  copied_marks (Some y) J r xs m = marks_bare r (copy_items y J) (copy_bare y J)
 
   again_bare : (ls : List ℕ) (k : ℕ) (last : Behind) → Bare (again ls k last)
   again_bare ls k last = one_of_both ((k == 0) && is_turn last) [] (jump (enclosing ls k) ∷ []) tt tt
@@ -350,8 +354,9 @@ module _ (W : Whole) (differ : Differ W.names) where
           let part = part_items W F out (ls ++ n ∷ []) (n + 2) b in
           let test = test_items W F out (n + 2) b 0 in
           let up : n + 2 + 1 ≡ n + 3 = omega arith in
-          rising n k e (copy_or (copy_at done b) (looped (is_tested b) n all part test)) (items_past W F out last ls k c 0) (omega arith) (omega (arith, is))
-          (copied_marks (copy_at done b) (jumps n k) (looped (is_tested b) n all part test) (looped_marks (is_tested b) n k all part test (omega arith) (omega (arith, is, few)) (past_marks b 0 (inside (ends last c)) (ls ++ n ∷ []) (n + 2) k (omega arith) (omega (arith, is, few)))
+          let asked = live_soon ahead F.lasting c in
+          rising n k e (copy_or (copy_at done b) asked (looped (is_tested b) n all part test)) (items_past W F out last ls k c 0) (omega arith) (omega (arith, is))
+          (copied_marks (copy_at done b) asked (jumps n k) (looped (is_tested b) n all part test) (looped_marks (is_tested b) n k all part test (omega arith) (omega (arith, is, few)) (past_marks b 0 (inside (ends last c)) (ls ++ n ∷ []) (n + 2) k (omega arith) (omega (arith, is, few)))
           (λ t. let r = some_label b t in (omega (arith, r), subst (λ h. Marks (jumps h k) part) up (part_marks b (ls ++ n ∷ []) (n + 2) k (omega arith) (omega (arith, is, few))))) (test_bare (n + 2) b 0)))
           (past_marks c 0 last ls k e (omega (arith, is)) few)
       past_marks (Leave k c) done last ls n e is few = bare_then (jumps n e) (jump _ ∷ []) (items_past W F out last ls n c 0) tt (past_marks c 0 last ls n e is few)

@@ -863,10 +863,10 @@ module _ (S : Setting) (fits : Fits S) where
         many = omega arith;
       }
 
-  pub test_sim : (κ : Ctx) (pc py px : ℕ) (w : Where) (s : State Where) (m : machine.State) → (shapes S).test κ.fn pc w py px → m.counter ≡ pc → Mach S κ s m → TestSim (holder S) κ py px m (begin (holder S) s) (spent node_weight s) (word_tested (s.cells w))
+  pub test_sim : (κ : Ctx) (pc py px : ℕ) (w : Where) (s : State Where) (m : machine.State) → (shapes S).test κ.fn pc w py px → m.counter ≡ pc → Mach S κ s m → TestSim (holder S) (Mach S κ (spent node_weight s)) py px m (begin (holder S) s) (spent node_weight s) (word_tested (s.cells w))
   test_sim κ pc py px w s m st e h = go (s.cells w) (word_stands S fits κ s.world.store s.cells h.place h.words w st.0 h.at)
     where
-      go : (c : Cell) → Stands (length s.world.store.objects) h.place c (word_of (S.whole.frames κ.fn) w h.words) → TestSim (holder S) κ py px m (begin (holder S) s) (spent node_weight s) (word_tested c)
+      go : (c : Cell) → Stands (length s.world.store.objects) h.place c (word_of (S.whole.frames κ.fn) w h.words) → TestSim (holder S) (Mach S κ (spent node_weight s)) py px m (begin (holder S) s) (spent node_weight s) (word_tested c)
       go Unwritten r = tt
       go (Ptr o i) r = tt
       go Null r = tt

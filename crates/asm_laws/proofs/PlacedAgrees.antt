@@ -22,7 +22,9 @@ use Rattle.asm_laws.specs.Program.{Program}
 use Rattle.asm_laws.specs.Tables.{Number, OfFunction, OfStart, OfRest, number_of, spots_at, frame_for, slot_for, called_for, locals_for, addresses, count_of, plan_of}
 use Rattle.asm_laws.specs.PlacedAt.{PlacedAt}
 use Rattle.asm_laws.specs.Spare.{Sparing}
+use Rattle.asm_laws.specs.Live.{lasts, Lasts}
 use Rattle.asm_laws.proofs.Spared.{held_is}
+use Rattle.asm_laws.proofs.Lasting.{body_lasts, every_lasts}
 use Rattle.asm_laws.proofs.Spotted.{function_is, spots_of, conventions}
 use Rattle.asm_laws.proofs.Words.{below_not}
 use Rattle.asm_laws.proofs.Tables.{number_function, function_number, fixed_global, fixed_literal, fixed_card, fits}
@@ -134,6 +136,7 @@ module _ (x : PlacedT) (names : List (List ℕ)) (address : List ℕ → ℕ) (e
     start_names = names_both (IsPlace x.code.start) IsStartPlace (Named S (count_of x)) start_named x.code.start.body p.placed.code.start.function.names p.placed.start;
     start_sound = record { local_there = λ k lt. let e = ap (λ n. length (locals_for x n (count_of x))) (start_number (count_of x)) in absurd (omega (arith, lt, e)) };
     start_spares = inl (ap (λ n. (frame_for x n (count_of x)).registers) (start_number (count_of x)));
+    start_lasts = λ r lt e. ap (λ n. lasts (frame_for x n (count_of x)).lasting r) (start_number (count_of x)) ∙ every_lasts r lt;
     start_quiet = p.placed.code.start.calls;
     nodes = λ g c. let lt = number_lt g c in subst (λ ls. AreNodes x.code (length ls) [] (function_at x.code g).body) (sym (ap (λ n. locals_for x n g) (N g lt))) (fn g lt).nodes;
     names = λ g c.
@@ -142,6 +145,7 @@ module _ (x : PlacedT) (names : List (List ℕ)) (address : List ℕ → ℕ) (e
         names_both (IsPlace (function_at x.code g)) (HasSlot (spots_at x g)) (Named S g) (named g lt) (function_at x.code g).body (fn g lt).names sp.1;
     sound = λ g c. let lt = number_lt g c in record { local_there = λ k kl. there g lt k kl };
     spares = λ g c. let lt = number_lt g c in subst (λ n. Sparing n (function_at x.code g).body 0) (sym (ap (λ n. (frame_for x n g).registers) (N g lt))) (held_is (function_at x.code g).body);
+    lasts = λ g c. let lt = number_lt g c in subst (λ n. Lasts n (λ r. false) (function_at x.code g).body 0) (sym (ap (λ n. (frame_for x n g).lasting) (N g lt))) (body_lasts (function_at x.code g).body);
     calls = λ f c g h e.
         let lf = number_lt f c in
         let lg = slice_get_within x.code.functions g h e in

@@ -25,6 +25,9 @@ use Rattle.asm_laws.specs.Holds.{Setting, Named, depth_of}
 use Rattle.asm_laws.specs.Acting.{Fitting, FrontFits}
 use Rattle.asm_laws.specs.Calling.{Callable, MadeAt, shapes}
 use Rattle.asm_laws.specs.Linked.{Linked, Plan, setting}
+use Rattle.asm_laws.specs.Live.{is_place, is_among, is_read, is_put, exposed, Lasts}
+use Rattle.asm_laws.proofs.LiveParts.{or_first, or_second}
+use Rattle.asm_laws.proofs.Lasting.{opened, turned, group_lasts, copied_lasts, turns_last, body_last, rest_last}
 use Rattle.asm_laws.specs.Program.{items_at, ProgramAt, Sound, Program}
 use Rattle.asm_laws.proofs.Opening.{opens}
 use Rattle.asm_laws.proofs.Spared.{halves, all_stay, one_stays}
@@ -92,70 +95,132 @@ module _ (S : Setting) (boot rest : ℕ) (card : Option (List ℕ)) (ok : IsCard
   made_there : (f : ℕ) → Sound S f → (bs : List Bool) (o : OpT Where) (c : NodesT Where) (pc : ℕ) → AreNodes S.code (length (S.locals f)) bs (Do o c) → Names (Named S f) (Do o c) → Sparing (Number f) (Do o c) zero → (items_at S).made f pc o c → MadeAt S f pc o c
   made_there f so bs o c pc n m sp h = record { more = h.0; made = h.1; is = h.2; fits = fitting f so o c n.0 m.0; front = front_fits f so bs c h.0 n.1 m.1; spares = sp; then = h.3; stands = h.4; out = h.5; passes = h.6; exit = h.7 }
 
-  at_of : (f : ℕ) → Sound S f → Calls f → (ls : List Bounds) (bs : List Bool) (c : NodesT Where) (done pc e : ℕ) → AreNodes S.code (length (S.locals f)) bs c → Names (Named S f) c → Sparing (Number f) c done → Past (items_at S) f ls pc c done e → Past (shapes S) f ls pc c done e
-  at_of f so cs ls bs Stop done pc e n m sp at = at
-  at_of f so cs ls bs (Do o c) zero pc e n m sp (inl h) = inl (made_there f so bs o c pc n m sp h)
-  at_of f so cs ls bs (Do o c) zero pc e n m sp (inr at) = inr (at.0, at.1, (fitting f so o c n.0 m.0, front_fits f so bs c at.0 n.1 m.1, at.2.0, at.2.1, sp, m), at_of f so cs ls bs c at.0 at.1 e n.1 m.1 (onward f o c at.0 at.2.1 sp) at.3)
-  at_of f so cs ls bs (Do o c) (suc k) pc e n m sp at = at_of f so cs ls bs c k pc e n.1 m.1 sp at
-  at_of f so cs ls bs (Call t g args c) done pc e n m sp at =
+  more_lasts : (f : ℕ) (u : ℕ → Bool) (o : OpT Where) (c : NodesT Where) (more : ℕ) → more ≡ group_more S.whole (S.whole.frames f) o c → Lasts (S.whole.frames f).lasting u (Do o c) zero → Lasts (S.whole.frames f).lasting (λ r. u r && not (is_put o r)) c more
+  more_lasts f u o c more e la = subst (λ k. Lasts (S.whole.frames f).lasting (λ r. u r && not (is_put o r)) c k) (sym e) (group_lasts (S.whole.frames f).lasting S.whole (S.whole.frames f) u o c la)
+
+  at_of : (f : ℕ) → Sound S f → Calls f → (u : ℕ → Bool) (ls : List Bounds) (bs : List Bool) (c : NodesT Where) (done pc e : ℕ) → AreNodes S.code (length (S.locals f)) bs c → Names (Named S f) c → Sparing (Number f) c done → Lasts (S.whole.frames f).lasting u c done → Past (items_at S) f ls pc c done e → Past (shapes S) f ls pc c done e
+  at_of f so cs u ls bs Stop done pc e n m sp la at = at
+  at_of f so cs u ls bs (Do o c) zero pc e n m sp la (inl h) = inl (made_there f so bs o c pc n m sp h)
+  at_of f so cs u ls bs (Do o c) zero pc e n m sp la (inr at) = inr (
+    at.0,
+    at.1,
+    (fitting f so o c n.0 m.0, front_fits f so bs c at.0 n.1 m.1, at.2.0, at.2.1, sp, m),
+    at_of f so cs (λ r. u r && not (is_put o r)) ls bs c at.0 at.1 e n.1 m.1 (onward f o c at.0 at.2.1 sp) (more_lasts f u o c at.0 at.2.1 la) at.3,
+  )
+  at_of f so cs u ls bs (Do o c) (suc k) pc e n m sp la at = at_of f so cs (λ r. u r && not (is_put o r)) ls bs c k pc e n.1 m.1 sp (λ r lt i. la r lt (or_second (u r && is_read o r) _ i)) at
+  at_of f so cs u ls bs (Call t g args c) done pc e n m sp la at =
       let i = mapped_from (λ h. length h.params) (slice_get S.code.functions g) (length args) n.0 in
       let s = cs g i.0 i.1 in
-      let d = halves (Number f) (are_others args) (spares c zero) sp in
-      (at.0, record { depth = s.0; callable = s.1; target = m.0.1; args_named = m.0.0; args_stay = all_stay S f (Number f) args d.0 m.0.0; count = sym i.2 ∙ ap length (sym s.2); stands = at.1 }, at_of f so cs ls bs c zero at.0 e n.1 m.1 d.1 at.2)
-  at_of f so cs ls bs (Choose w x y c) done pc e n m sp at =
+      let d = halves (Number f) (are_others args) (spares c zero) sp in (
+        at.0,
+        record { depth = s.0; callable = s.1; target = m.0.1; args_named = m.0.0; args_stay = all_stay S f (Number f) args d.0 m.0.0; count = sym i.2 ∙ ap length (sym s.2); stands = at.1 },
+        at_of f so cs (λ r. false) ls bs c zero at.0 e n.1 m.1 d.1 (λ r lt j. la r lt (or_second (u r && is_among args r) _ j)) at.2,
+      )
+  at_of f so cs u ls bs (Choose w x y c) done pc e n m sp la at =
       let d = halves (Number f) (not (is_in w 8)) (spares x zero && (spares y zero && spares c zero)) sp in
       let h = halves (Number f) (spares x zero) (spares y zero && spares c zero) d.1 in
       let i = halves (Number f) (spares y zero) (spares c zero) h.1 in
-      (at.0, at.1, at.2, at.3, (m.0.0.0, at.4, one_stays S f (Number f) w d.0 m.0.0.0), at_of f so cs (paid ls) bs x zero at.0 at.1 n.0 m.1 h.0 at.5, at.6, at_of f so cs (paid ls) bs y zero at.2 at.3 n.1 m.2 i.0 at.7, at_of f so cs ls bs c zero at.3 e n.2 m.3 i.1 at.8)
-  at_of f so cs ls bs (Block b c) done pc e n m sp at =
+      let lx : Lasts (S.whole.frames f).lasting u x zero = λ r lt j. la r lt (or_second (u r && is_place w r) _ (or_first (exposed (u r) x 0 r) _ j)) in
+      let ly : Lasts (S.whole.frames f).lasting u y zero = λ r lt j. la r lt (or_second (u r && is_place w r) _ (or_second (exposed (u r) x 0 r) _ (or_first (exposed (u r) y 0 r) (exposed true c 0 r) j))) in
+      let lc : Lasts (S.whole.frames f).lasting (λ r. true) c zero = λ r lt j. la r lt (or_second (u r && is_place w r) _ (or_second (exposed (u r) x 0 r) _ (or_second (exposed (u r) y 0 r) (exposed true c 0 r) j))) in (
+        at.0,
+        at.1,
+        at.2,
+        at.3,
+        (m.0.0.0, at.4, one_stays S f (Number f) w d.0 m.0.0.0),
+        at_of f so cs u (paid ls) bs x zero at.0 at.1 n.0 m.1 h.0 lx at.5,
+        at.6,
+        at_of f so cs u (paid ls) bs y zero at.2 at.3 n.1 m.2 i.0 ly at.7,
+        at_of f so cs (λ r. true) ls bs c zero at.3 e n.2 m.3 i.1 lc at.8,
+        opened (S.whole.frames f).lasting c lc,
+      )
+  at_of f so cs u ls bs (Block b c) done pc e n m sp la at =
       let d = halves (Number f) (spares b zero) (spares c zero) sp in
-      (at.0, at_of f so cs (record { begins = pc; ends = at.0; owes = true } ∷ ls) (false ∷ bs) b zero pc at.0 n.0 m.0 d.0 at.1, at_of f so cs ls bs c zero at.0 e n.1 m.1 d.1 at.2)
-  at_of f so cs ls bs (Loop b c) done pc e n m sp (p, inl h, rest) =
+      let lb : Lasts (S.whole.frames f).lasting u b zero = λ r lt j. la r lt (or_first (exposed (u r) b 0 r) (exposed true c 0 r) j) in
+      let lc : Lasts (S.whole.frames f).lasting (λ r. true) c zero = λ r lt j. la r lt (or_second (exposed (u r) b 0 r) (exposed true c 0 r) j) in
+      (at.0, at_of f so cs u (record { begins = pc; ends = at.0; owes = true } ∷ ls) (false ∷ bs) b zero pc at.0 n.0 m.0 d.0 lb at.1, at_of f so cs (λ r. true) ls bs c zero at.0 e n.1 m.1 d.1 lc at.2, opened (S.whole.frames f).lasting c lc)
+  at_of f so cs u ls bs (Loop b c) done pc e n m sp la (p, inl h, rest) =
       let d = halves (Number f) (spares b zero) (spares c zero) sp in
-      (p, inl (h.0, h.1, h.2, m.0, d.0), at_of f so cs ls bs c zero p e n.1 m.1 d.1 rest)
-  at_of f so cs ls bs (Loop b c) done pc e n m sp (p, inr (plain, q, passes, body), rest) =
+      (p, inl (h.0, h.1, h.2, m.0, d.0), at_of f so cs u ls bs c zero p e n.1 m.1 d.1 (copied_lasts (S.whole.frames f).lasting u b c done la h.0 h.1) rest)
+  at_of f so cs u ls bs (Loop b c) done pc e n m sp la (p, inr (plain, r, passes, body, begins, turns, behind), rest) =
       let d = halves (Number f) (spares b zero) (spares c zero) sp in
-      (p, inr (plain, q, passes, at_of f so cs (record { begins = q; ends = p; owes = true } ∷ ls) (true ∷ bs) b zero q p n.0 m.0 d.0 body), at_of f so cs ls bs c zero p e n.1 m.1 d.1 rest)
-  at_of f so cs ls bs (Leave k c) done pc e n m sp at = (at.0, (at.1.0, at_of f so cs ls bs c zero at.1.0 e n.1 m sp at.1.1))
-  at_of f so cs ls bs (Again k c) done pc e n m sp at = (at.0, (at.1.0, at_of f so cs ls bs c zero at.1.0 e n.1 m sp at.1.1))
-  at_of f so cs ls bs (Return w c) done pc e n m sp at =
-      let d = halves (Number f) (are_others (maybe w)) (spares c zero) sp in
-      (record { named = m.0.0; stays = all_stay S f (Number f) (maybe w) d.0 m.0.0; then = at.0.0; stands = at.0.1; out = at.0.2; passes = at.0.3; exit = at.0.4 }, (at.1.0, at_of f so cs ls bs c zero at.1.0 e n m.1 d.1 at.1.1))
+      let lb = body_last (S.whole.frames f).lasting u b c done la plain in
+      let lc = rest_last (S.whole.frames f).lasting u b c done la plain in
+      let lt = turns_last (S.whole.frames f).lasting u b c done la plain in (
+        p,
+        inr (plain, r, passes, at_of f so cs (λ i. true) (record { begins = r; ends = p; owes = true } ∷ ls) (true ∷ bs) b zero r p n.0 m.0 d.0 lb body, opened (S.whole.frames f).lasting b lb, turned (S.whole.frames f).lasting b lt, opened (S.whole.frames f).lasting c lc),
+        at_of f so cs (λ i. true) ls bs c zero p e n.1 m.1 d.1 lc rest,
+      )
+  at_of f so cs u ls bs (Leave k c) done pc e n m sp la at = (at.0, (at.1.0, at_of f so cs (λ r. true) ls bs c zero at.1.0 e n.1 m sp la at.1.1))
+  at_of f so cs u ls bs (Again k c) done pc e n m sp la at = (at.0, (at.1.0, at_of f so cs (λ r. true) ls bs c zero at.1.0 e n.1 m sp la at.1.1))
+  at_of f so cs u ls bs (Return w c) done pc e n m sp la at =
+      let d = halves (Number f) (are_others (maybe w)) (spares c zero) sp in (
+        record { named = m.0.0; stays = all_stay S f (Number f) (maybe w) d.0 m.0.0; then = at.0.0; stands = at.0.1; out = at.0.2; passes = at.0.3; exit = at.0.4 },
+        (at.1.0, at_of f so cs (λ r. true) ls bs c zero at.1.0 e n m.1 d.1 (λ r lt i. la r lt (or_second (u r && is_among (maybe w) r) _ i)) at.1.1),
+      )
 
   -- the start calls none
-  at_quiet : (f : ℕ) → Sound S f → (ls : List Bounds) (bs : List Bool) (c : NodesT Where) (done pc e : ℕ) → AreNodes S.code (length (S.locals f)) bs c → Names (Named S f) c → CallsNone c → Sparing (Number f) c done → Past (items_at S) f ls pc c done e → Past (shapes S) f ls pc c done e
-  at_quiet f so ls bs Stop done pc e n m q sp at = at
-  at_quiet f so ls bs (Do o c) zero pc e n m q sp (inl h) = inl (made_there f so bs o c pc n m sp h)
-  at_quiet f so ls bs (Do o c) zero pc e n m q sp (inr at) = inr (at.0, at.1, (fitting f so o c n.0 m.0, front_fits f so bs c at.0 n.1 m.1, at.2.0, at.2.1, sp, m), at_quiet f so ls bs c at.0 at.1 e n.1 m.1 q (onward f o c at.0 at.2.1 sp) at.3)
-  at_quiet f so ls bs (Do o c) (suc k) pc e n m q sp at = at_quiet f so ls bs c k pc e n.1 m.1 q sp at
-  at_quiet f so ls bs (Call t g args c) done pc e n m q sp at = absurd q
-  at_quiet f so ls bs (Choose w x y c) done pc e n m q sp at =
+  at_quiet : (f : ℕ) → Sound S f → (u : ℕ → Bool) (ls : List Bounds) (bs : List Bool) (c : NodesT Where) (done pc e : ℕ) → AreNodes S.code (length (S.locals f)) bs c → Names (Named S f) c → CallsNone c → Sparing (Number f) c done → Lasts (S.whole.frames f).lasting u c done → Past (items_at S) f ls pc c done e → Past (shapes S) f ls pc c done e
+  at_quiet f so u ls bs Stop done pc e n m q sp la at = at
+  at_quiet f so u ls bs (Do o c) zero pc e n m q sp la (inl h) = inl (made_there f so bs o c pc n m sp h)
+  at_quiet f so u ls bs (Do o c) zero pc e n m q sp la (inr at) = inr (
+    at.0,
+    at.1,
+    (fitting f so o c n.0 m.0, front_fits f so bs c at.0 n.1 m.1, at.2.0, at.2.1, sp, m),
+    at_quiet f so (λ r. u r && not (is_put o r)) ls bs c at.0 at.1 e n.1 m.1 q (onward f o c at.0 at.2.1 sp) (more_lasts f u o c at.0 at.2.1 la) at.3,
+  )
+  at_quiet f so u ls bs (Do o c) (suc k) pc e n m q sp la at = at_quiet f so (λ r. u r && not (is_put o r)) ls bs c k pc e n.1 m.1 q sp (λ r lt i. la r lt (or_second (u r && is_read o r) _ i)) at
+  at_quiet f so u ls bs (Call t g args c) done pc e n m q sp la at = absurd q
+  at_quiet f so u ls bs (Choose w x y c) done pc e n m q sp la at =
       let d = halves (Number f) (not (is_in w 8)) (spares x zero && (spares y zero && spares c zero)) sp in
       let h = halves (Number f) (spares x zero) (spares y zero && spares c zero) d.1 in
       let i = halves (Number f) (spares y zero) (spares c zero) h.1 in
-      (at.0, at.1, at.2, at.3, (m.0.0.0, at.4, one_stays S f (Number f) w d.0 m.0.0.0), at_quiet f so (paid ls) bs x zero at.0 at.1 n.0 m.1 q.0 h.0 at.5, at.6, at_quiet f so (paid ls) bs y zero at.2 at.3 n.1 m.2 q.1 i.0 at.7, at_quiet f so ls bs c zero at.3 e n.2 m.3 q.2 i.1 at.8)
-  at_quiet f so ls bs (Block b c) done pc e n m q sp at =
+      let lx : Lasts (S.whole.frames f).lasting u x zero = λ r lt j. la r lt (or_second (u r && is_place w r) _ (or_first (exposed (u r) x 0 r) _ j)) in
+      let ly : Lasts (S.whole.frames f).lasting u y zero = λ r lt j. la r lt (or_second (u r && is_place w r) _ (or_second (exposed (u r) x 0 r) _ (or_first (exposed (u r) y 0 r) (exposed true c 0 r) j))) in
+      let lc : Lasts (S.whole.frames f).lasting (λ r. true) c zero = λ r lt j. la r lt (or_second (u r && is_place w r) _ (or_second (exposed (u r) x 0 r) _ (or_second (exposed (u r) y 0 r) (exposed true c 0 r) j))) in (
+        at.0,
+        at.1,
+        at.2,
+        at.3,
+        (m.0.0.0, at.4, one_stays S f (Number f) w d.0 m.0.0.0),
+        at_quiet f so u (paid ls) bs x zero at.0 at.1 n.0 m.1 q.0 h.0 lx at.5,
+        at.6,
+        at_quiet f so u (paid ls) bs y zero at.2 at.3 n.1 m.2 q.1 i.0 ly at.7,
+        at_quiet f so (λ r. true) ls bs c zero at.3 e n.2 m.3 q.2 i.1 lc at.8,
+        opened (S.whole.frames f).lasting c lc,
+      )
+  at_quiet f so u ls bs (Block b c) done pc e n m q sp la at =
       let d = halves (Number f) (spares b zero) (spares c zero) sp in
-      (at.0, at_quiet f so (record { begins = pc; ends = at.0; owes = true } ∷ ls) (false ∷ bs) b zero pc at.0 n.0 m.0 q.0 d.0 at.1, at_quiet f so ls bs c zero at.0 e n.1 m.1 q.1 d.1 at.2)
-  at_quiet f so ls bs (Loop b c) done pc e n m q sp (p, inl h, rest) =
+      let lb : Lasts (S.whole.frames f).lasting u b zero = λ r lt j. la r lt (or_first (exposed (u r) b 0 r) (exposed true c 0 r) j) in
+      let lc : Lasts (S.whole.frames f).lasting (λ r. true) c zero = λ r lt j. la r lt (or_second (exposed (u r) b 0 r) (exposed true c 0 r) j) in
+      (at.0, at_quiet f so u (record { begins = pc; ends = at.0; owes = true } ∷ ls) (false ∷ bs) b zero pc at.0 n.0 m.0 q.0 d.0 lb at.1, at_quiet f so (λ r. true) ls bs c zero at.0 e n.1 m.1 q.1 d.1 lc at.2, opened (S.whole.frames f).lasting c lc)
+  at_quiet f so u ls bs (Loop b c) done pc e n m q sp la (p, inl h, rest) =
       let d = halves (Number f) (spares b zero) (spares c zero) sp in
-      (p, inl (h.0, h.1, h.2, m.0, d.0), at_quiet f so ls bs c zero p e n.1 m.1 q.1 d.1 rest)
-  at_quiet f so ls bs (Loop b c) done pc e n m q sp (p, inr (plain, r, passes, body), rest) =
+      (p, inl (h.0, h.1, h.2, m.0, d.0), at_quiet f so u ls bs c zero p e n.1 m.1 q.1 d.1 (copied_lasts (S.whole.frames f).lasting u b c done la h.0 h.1) rest)
+  at_quiet f so u ls bs (Loop b c) done pc e n m q sp la (p, inr (plain, r, passes, body, begins, turns, behind), rest) =
       let d = halves (Number f) (spares b zero) (spares c zero) sp in
-      (p, inr (plain, r, passes, at_quiet f so (record { begins = r; ends = p; owes = true } ∷ ls) (true ∷ bs) b zero r p n.0 m.0 q.0 d.0 body), at_quiet f so ls bs c zero p e n.1 m.1 q.1 d.1 rest)
-  at_quiet f so ls bs (Leave k c) done pc e n m q sp at = (at.0, (at.1.0, at_quiet f so ls bs c zero at.1.0 e n.1 m q sp at.1.1))
-  at_quiet f so ls bs (Again k c) done pc e n m q sp at = (at.0, (at.1.0, at_quiet f so ls bs c zero at.1.0 e n.1 m q sp at.1.1))
-  at_quiet f so ls bs (Return w c) done pc e n m q sp at =
-      let d = halves (Number f) (are_others (maybe w)) (spares c zero) sp in
-      (record { named = m.0.0; stays = all_stay S f (Number f) (maybe w) d.0 m.0.0; then = at.0.0; stands = at.0.1; out = at.0.2; passes = at.0.3; exit = at.0.4 }, (at.1.0, at_quiet f so ls bs c zero at.1.0 e n m.1 q d.1 at.1.1))
+      let lb = body_last (S.whole.frames f).lasting u b c done la plain in
+      let lc = rest_last (S.whole.frames f).lasting u b c done la plain in
+      let lt = turns_last (S.whole.frames f).lasting u b c done la plain in (
+        p,
+        inr (plain, r, passes, at_quiet f so (λ i. true) (record { begins = r; ends = p; owes = true } ∷ ls) (true ∷ bs) b zero r p n.0 m.0 q.0 d.0 lb body, opened (S.whole.frames f).lasting b lb, turned (S.whole.frames f).lasting b lt, opened (S.whole.frames f).lasting c lc),
+        at_quiet f so (λ i. true) ls bs c zero p e n.1 m.1 q.1 d.1 lc rest,
+      )
+  at_quiet f so u ls bs (Leave k c) done pc e n m q sp la at = (at.0, (at.1.0, at_quiet f so (λ r. true) ls bs c zero at.1.0 e n.1 m q sp la at.1.1))
+  at_quiet f so u ls bs (Again k c) done pc e n m q sp la at = (at.0, (at.1.0, at_quiet f so (λ r. true) ls bs c zero at.1.0 e n.1 m q sp la at.1.1))
+  at_quiet f so u ls bs (Return w c) done pc e n m q sp la at =
+      let d = halves (Number f) (are_others (maybe w)) (spares c zero) sp in (
+        record { named = m.0.0; stays = all_stay S f (Number f) (maybe w) d.0 m.0.0; then = at.0.0; stands = at.0.1; out = at.0.2; passes = at.0.3; exit = at.0.4 },
+        (at.1.0, at_quiet f so (λ r. true) ls bs c zero at.1.0 e n m.1 q d.1 (λ r lt i. la r lt (or_second (u r && is_among (maybe w) r) _ i)) at.1.1),
+      )
 
   pub linked : ProgramAt S boot → Linked S card boot rest
   linked at = record {
     fits = P.fits;
-    functions = λ g c. let b = at.functions g c in record { begins = b.begins; label = b.label; entry = b.entry; body = at_of g (P.sound g c) (P.calls g c) [] [] _ zero (S.enters g) (S.leaves g) (P.nodes g c) (P.names g c) (P.spares g c) b.body; ends = b.ends; exit = b.exit };
+    functions = λ g c. let b = at.functions g c in record { begins = b.begins; label = b.label; entry = b.entry; body = at_of g (P.sound g c) (P.calls g c) (λ r. false) [] [] _ zero (S.enters g) (S.leaves g) (P.nodes g c) (P.names g c) (P.spares g c) (P.lasts g c) b.body; ends = b.ends; exit = b.exit };
     has_card = P.laid.has_card;
     opening = at.opening;
-    start = at_quiet boot P.start_sound [] [] S.code.start.body zero (S.enters boot) (S.leaves boot) P.start_nodes P.start_names P.start_quiet P.start_spares at.start;
+    start = at_quiet boot P.start_sound (λ r. false) [] [] S.code.start.body zero (S.enters boot) (S.leaves boot) P.start_nodes P.start_names P.start_quiet P.start_spares P.start_lasts at.start;
     rest_as = P.rest_as;
     boot_as = P.laid.called_as;
     boot_depth = P.laid.depth;

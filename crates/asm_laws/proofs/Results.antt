@@ -146,7 +146,7 @@ NoResult (suc k) _ = Unit {0}
 
 ops_none : (k : ℕ) (c : NodesT Where) → AreOps k c → NoResult k c
 ops_none zero c h = tt
-ops_none (suc k) (Do o c) h = ops_none k c h
+ops_none (suc k) (Do o c) h = ops_none k c h.1
 ops_none (suc k) _ h = absurd h
 
 pub group_none : (W : Whole) (F : Frame) (o : OpT Where) (c : NodesT Where) → NoResult (group_more W F o c) c

@@ -10,13 +10,15 @@ use Rattle.mid_code.specs.declared.placed.Where.TheVariants.{Reg}
 use Rattle.mid_code.specs.Code.{OpT, ConstO, NullO, MoveO, OneO, TwoO, GlobalO, LocalO, LiteralO, CardO, StepO, ApartO, PtrTestO, LoadO, StoreO, FreshO, EndO, InO, OutO, WaitO, HaltO, NodesT, Stop, Do, Call, Choose, Block, Loop, Leave, Again, Return, FunctionT, CodeT}
 use Rattle.mid_code.specs.Invariants.{AreNodes, AllOf}
 use Rattle.asm_laws.specs.Names.{function_label}
-use Rattle.asm_laws.specs.Operations.{Frame, Whole, hand, brings, op_items, word_put, with_more, in_one, one_or_more, more_of, call_items, args_items, keeps_some, start_frame, literals_items, put_items, puts_items, led_items, led_more, group_items, group_more, giving_left, given_first, made_both, made_with, first_made, made_of, made_or, made_more, next_items, next_more}
+use Rattle.asm_laws.specs.Live.{asked_behind}
+use Rattle.asm_laws.specs.Operations.{unless_left, Frame, Whole, hand, brings, op_items, word_put, with_more, in_one, one_or_more, more_of, call_items, args_items, keeps_some, start_frame, literals_items, word_items, put_items, puts_items, led_items, led_more, group_items, group_more, giving_left, given_first, made_both, made_with, first_made, made_of, made_or, made_more, next_items, next_more}
 use Rattle.asm_laws.specs.declared.behind.Behind.{Behind}
 use Rattle.asm_laws.specs.declared.behind.Behind.TheVariants.{Other, End, Turn}
 use Rattle.asm_laws.specs.inner.Emitted.{labels, enclosing, jump, choice, alone, left_to, ends, is_stop, enclosed, left_by, items_past, code_items, function_items, functions_items, call_item, exit_items, closing_items, program_items, inside, is_end, again, looped, is_tested, part_items, test_items, jump_when}
 use Rattle.asm_laws.specs.Framing.{frame_made}
 use Rattle.asm_laws.specs.declared.copying.Copying.{Copying}
-use Rattle.asm_laws.specs.Copies.{lead, move_items, copy_at, copy_or}
+use Rattle.asm_laws.specs.Copies.{put_into, lead, move_items, copy_at, copy_or}
+use Rattle.asm_laws.specs.Live.{live_soon, ahead}
 use Rattle.asm_laws.proofs.Known.{function_there}
 
 -- with other frames
@@ -60,31 +62,34 @@ one_same : (W : Whole) (fr : ℕ → Frame) (F : Frame) (o : OpT Where) (r : Opt
 one_same W fr F o None = op_same W fr F o
 one_same W fr F o (Some (more, first, i)) = refl
 
-put_items_same : (W : Whole) (fr : ℕ → Frame) (F : Frame) (y : Copying) (o : OpT Where) → put_items (framed W fr) F y o ≡ put_items W F y o
-put_items_same W fr F y (ConstO (Reg r) n) = refl
-put_items_same W fr F y (GlobalO (Reg r) k) = refl
-put_items_same W fr F y (LocalO (Reg r) k) = refl
-put_items_same W fr F y (MoveO (Reg r) p) = refl
-put_items_same W fr F y _ = refl
+word_items_same : (W : Whole) (fr : ℕ → Frame) (F : Frame) (y : Copying) (o : OpT Where) → word_items (framed W fr) F y o ≡ word_items W F y o
+word_items_same W fr F y (ConstO (Reg r) n) = refl
+word_items_same W fr F y (GlobalO (Reg r) k) = refl
+word_items_same W fr F y (LocalO (Reg r) k) = refl
+word_items_same W fr F y (MoveO (Reg r) p) = refl
+word_items_same W fr F y _ = refl
 
-puts_same : (W : Whole) (fr : ℕ → Frame) (F : Frame) (y : Copying) (c : NodesT Where) (k : ℕ) → puts_items (framed W fr) F y c k ≡ puts_items W F y c k
-puts_same W fr F y (Do o c) (suc k) = let p = put_items_same W fr F y o in let q = puts_same W fr F y c k in λ i. p i ++ q i
-puts_same W fr F y (Do o c) zero = refl
-puts_same W fr F y Stop k = refl
-puts_same W fr F y (Call t g args c) k = refl
-puts_same W fr F y (Choose p a b c) k = refl
-puts_same W fr F y (Block b c) k = refl
-puts_same W fr F y (Loop b c) k = refl
-puts_same W fr F y (Leave j c) k = refl
-puts_same W fr F y (Again j c) k = refl
-puts_same W fr F y (Return p c) k = refl
+put_items_same : (W : Whole) (fr : ℕ → Frame) (F : Frame) (y : Copying) (J : Bool) (o : OpT Where) → put_items (framed W fr) F y J o ≡ put_items W F y J o
+put_items_same W fr F y J o = ap (unless_left y J (put_into o)) (word_items_same W fr F y o)
+
+puts_same : (W : Whole) (fr : ℕ → Frame) (F : Frame) (y : Copying) (J : Bool) (c : NodesT Where) (k : ℕ) → puts_items (framed W fr) F y J c k ≡ puts_items W F y J c k
+puts_same W fr F y J (Do o c) (suc k) = let p = put_items_same W fr F y J o in let q = puts_same W fr F y J c k in λ i. p i ++ q i
+puts_same W fr F y J (Do o c) zero = refl
+puts_same W fr F y J Stop k = refl
+puts_same W fr F y J (Call t g args c) k = refl
+puts_same W fr F y J (Choose p a b c) k = refl
+puts_same W fr F y J (Block b c) k = refl
+puts_same W fr F y J (Loop b c) k = refl
+puts_same W fr F y J (Leave j c) k = refl
+puts_same W fr F y J (Again j c) k = refl
+puts_same W fr F y J (Return p c) k = refl
 
 group_same : (W : Whole) (fr : ℕ → Frame) (F : Frame) (o : OpT Where) (c : NodesT Where) → group_items (framed W fr) F o c ≡ group_items W F o c
 group_same W fr F o c = go (lead (Do o c))
   where
     go : (x : Option (ℕ × Copying)) → led_items (framed W fr) F o c x ≡ led_items W F o c x
     go None = ap (one_or_more (framed W fr) F o) (in_one_same W fr F o c) ∙ one_same W fr F o (in_one W F o c)
-    go (Some (k, y)) = ap (λ xs. xs ++ move_items y (Do o c)) (puts_same W fr F y (Do o c) k)
+    go (Some (k, y)) = ap (λ xs. xs ++ move_items y (Do o c)) (puts_same W fr F y (asked_behind F.lasting c y.one) (Do o c) k)
 
 more_same : (W : Whole) (fr : ℕ → Frame) (F : Frame) (o : OpT Where) (c : NodesT Where) → group_more (framed W fr) F o c ≡ group_more W F o c
 more_same W fr F o c = go (lead (Do o c))
@@ -145,7 +150,7 @@ module _ (x : CodeT Where) (W : Whole) (fr : ℕ → Frame) (same : (g : ℕ) �
         let part = part_same m F out b (true ∷ bs) (ls ++ n ∷ []) (n + 2) ok.0 in
         let test = test_same m F out (n + 2) b 0 (true ∷ bs) ok.0 in
         let q = past_same m F out c 0 last bs ls (n + (2 + labels b)) ok.1 in
-        λ i. copy_or (copy_at done b) (looped (is_tested b) n (p i) (part i) (test i)) ++ q i
+        λ i. copy_or (copy_at done b) (live_soon ahead F.lasting c) (looped (is_tested b) n (p i) (part i) (test i)) ++ q i
     past_same m F out (Leave k c) done last bs ls n ok = ap (λ y. jump (add (enclosing ls k) 1) ∷ y) (past_same m F out c 0 last bs ls n ok.1)
     past_same m F out (Again k c) done last bs ls n ok = ap (λ y. again ls k (ends last c) ++ y) (past_same m F out c 0 last bs ls n ok.1)
     past_same m F out (Return p c) done last bs ls n ok = ap (λ y. giving_left F p done ++ (left_by F out (is_end (ends last c)) ++ y)) (past_same m F out c 0 last bs ls n ok)

@@ -1,6 +1,6 @@
 -- Items have at most as many words as their code weighs.
 use Rattle.std.proofs.Common.{◌≡◌, ℕ, zero, suc, ◌+◌, ◌*◌, ◌≤◌, inl, inr, List, [], ◌∷◌, ◌++◌, length, map, Option, Some, None, refl, ap, arith}
-use Rattle.std.specs.Prelude.{◌==◌, cond, Bool, true, false, get_or, sum_by, ◌&&◌}
+use Rattle.std.specs.Prelude.{◌==◌, cond, Bool, true, false, get_or, sum_by, ◌&&◌, ◌||◌}
 use Rattle.std.proofs.lemmas.List.Sums.{sum_by-cons}
 use Rattle.either.specs.declared.Either.TheVariants.{Left, Right}
 use Rattle.v32_isa.specs.declared.instruction.Plain.TheVariants.{HLT, WAIT, RET, MOVS, SETS}
@@ -27,7 +27,9 @@ use Rattle.asm_laws.specs.Names.{literal_label, function_label}
 use Rattle.kit_base.specs.Word.{add}
 use Rattle.asm_laws.specs.Operations as operations
 use Rattle.asm_laws.specs.Moves.{Move, in_order}
-use Rattle.asm_laws.specs.Operations.{Frame, Whole, arg_word, slot_word, local_word, fetches, keeps, keeps_some, hand, brings, takes, aim, lays, moves, changes, is_direct, in_place, apart, is_turned, turned_or_apart, computes, slot_arg, slot_args, moved_items, args_items, call_items, op_items, in_one, one_or_more, more_of, giving, start_frame, literal_items, literals_items, put_items, puts_items, group_items, giving_left, next_items, next_more, word_put, led_items, led_more, group_more, made_of, made_or, made_more}
+use Rattle.asm_laws.specs.Live.{asked_behind}
+use Rattle.asm_laws.proofs.Putting.{unless_is}
+use Rattle.asm_laws.specs.Operations.{Frame, Whole, arg_word, slot_word, local_word, fetches, keeps, keeps_some, hand, brings, takes, aim, lays, moves, changes, is_direct, in_place, apart, is_turned, turned_or_apart, computes, slot_arg, slot_args, moved_items, args_items, call_items, op_items, in_one, one_or_more, more_of, giving, start_frame, literal_items, literals_items, word_items, put_items, puts_items, group_items, giving_left, next_items, next_more, word_put, led_items, led_more, group_more, made_of, made_or, made_more}
 use Rattle.asm_laws.specs.Pieces.{register, is_in, turned}
 use Rattle.asm_laws.specs.Framing.{frame_made, frame_gone}
 use Rattle.asm_laws.specs.declared.behind.Behind.{Behind}
@@ -36,7 +38,8 @@ use Rattle.asm_laws.specs.inner.Emitted.{labels, enclosing, jump, jump_unless, m
 use Rattle.asm_laws.proofs.Ordering.{in_order_few}
 use Rattle.asm_laws.specs.declared.copying.Copying.{Copying}
 use Rattle.asm_laws.specs.declared.made.Made.{Made}
-use Rattle.asm_laws.specs.Copies.{lead, copy_of, copy_at, put_into, goes_to, is_put, source, source_put, move_item, move_items, block_of, back_items, copy_items, copy_or}
+use Rattle.asm_laws.specs.Copies.{lead, copy_of, copy_at, put_into, goes_to, is_put, source, source_put, move_item, move_items, block_of, last_item, when, back_items, copy_items, copy_or}
+use Rattle.asm_laws.specs.Live.{live_soon, ahead}
 use Rattle.asm_laws.proofs.Leads.{copy_turn, fill_turn, copy_is, lead_is, puts_before, puts_elim, some_put, put_elim}
 use Rattle.asm_laws.proofs.InOne.{TakesWord, one_or_more_is, made_or_is}
 use Rattle.asm_laws.proofs.Walked.{total_append, total_one, total_none, total_more}
@@ -201,16 +204,19 @@ front_weight (Do o c) (suc k) = op_weight o + front_weight c k
 front_weight _ k = 0
 
 -- Words that are put into registers take a few words each, and at most three that are not put a word each.
-put_size : (W : Whole) (F : Frame) (y : Copying) (o : OpT Where) (r : ℕ) → put_into o ≡ Some r → (size (put_items W F y o) ≤ 4) × (op_weight o ≡ 8)
-put_size W F y = put_elim (λ o r. (size (put_items W F y o) ≤ 4) × (op_weight o ≡ 8))
+word_size : (W : Whole) (F : Frame) (y : Copying) (o : OpT Where) (r : ℕ) → put_into o ≡ Some r → (size (word_items W F y o) ≤ 4) × (op_weight o ≡ 8)
+word_size W F y = put_elim (λ o r. (size (word_items W F y o) ≤ 4) × (op_weight o ≡ 8))
     (λ r n. (let z = one_item (item.Op (instr.Mov (RegImm (register (goes_to y r)) (Left n)))) 2 (omega arith) in omega (arith, z), refl))
     (λ r k. (let z = one_item (item.Op (instr.Mov (RegImm (register (goes_to y r)) (Left (get_or W.globals k 0))))) 2 (omega arith) in omega (arith, z), refl))
     (λ r k. (let z = one_item (item.Op (instr.Lea (register (goes_to y r)) 15 (Some (Left (local_word F k))))) 2 (omega arith) in omega (arith, z), refl))
     (λ r p. (moves_size F (Reg (goes_to y r)) p, refl))
 
-puts_size : (W : Whole) (F : Frame) (z : Copying) (d : NodesT Where) (k : ℕ) (y : Copying) → puts_before d ≡ Some (k, y) → size (puts_items W F z d k) + 4 * k ≤ front_weight d (suc k)
-puts_size W F z = puts_elim (λ d k y. size (puts_items W F z d k) + 4 * k ≤ front_weight d (suc k)) (λ b c y q. omega (arith, total_none))
-    (λ o r c k y p q h. let s = put_size W F z o r p in let t = total_append (put_items W F z o) (puts_items W F z c k) in let s0 = s.0 in let s1 = s.1 in omega (arith, s0, s1, t, h))
+put_size : (W : Whole) (F : Frame) (y : Copying) (J : Bool) (o : OpT Where) (r : ℕ) → put_into o ≡ Some r → (size (put_items W F y J o) ≤ 4) × (op_weight o ≡ 8)
+put_size W F y J o r e = let w = word_size W F y o r e in (unless_is (λ xs. size xs ≤ 4) y J (put_into o) (word_items W F y o) (omega (arith, total_none)) w.0, w.1)
+
+puts_size : (W : Whole) (F : Frame) (z : Copying) (J : Bool) (d : NodesT Where) (k : ℕ) (y : Copying) → puts_before d ≡ Some (k, y) → size (puts_items W F z J d k) + 4 * k ≤ front_weight d (suc k)
+puts_size W F z J = puts_elim (λ d k y. size (puts_items W F z J d k) + 4 * k ≤ front_weight d (suc k)) (λ b c y q. omega (arith, total_none))
+    (λ o r c k y p q h. let s = put_size W F z J o r p in let t = total_append (put_items W F z J o) (puts_items W F z J c k) in let s0 = s.0 in let s1 = s.1 in omega (arith, s0, s1, t, h))
 
 move_size : (y : Copying) (c : NodesT Where) → size (move_items y c) ≤ 3
 move_size y c = go (is_put y.to false c) (source_put y.from false c) (is_put y.count false c)
@@ -232,8 +238,9 @@ group_size W F o c = go (lead (Do o c)) refl
     go None e = let s = one_size W F o c in omega (arith, s)
     go (Some (k, y)) e =
         let h = lead_is (Do o c) k y e in
-        let s = total_append (puts_items W F y (Do o c) k) (move_items y (Do o c)) in
-        omega (arith, s, puts_size W F y (Do o c) k y h.puts, move_size y (Do o c), some_put (Do o c) k y h.puts)
+        let J = asked_behind F.lasting c y.one in
+        let s = total_append (puts_items W F y J (Do o c) k) (move_items y (Do o c)) in
+        omega (arith, s, puts_size W F y J (Do o c) k y h.puts, move_size y (Do o c), some_put (Do o c) k y h.puts)
 
 -- what is given back right behind is made of fewer words than the operation weighs
 made_size_of : (W : Whole) (F : Frame) (o : OpT Where) (c : NodesT Where) → size (made_or F (made_of W F o c) []) ≤ op_weight o
@@ -257,35 +264,47 @@ next_size W F o c = go (made_of W F o c) (made_size_of W F o c)
 more_size : (x : AsmItem) (xs : List AsmItem) (k n : ℕ) → item_size x ≤ k → size xs ≤ n → size (x ∷ xs) ≤ k + n
 more_size x xs k n a b = omega (arith, total_more x xs, a, b)
 
-copy_size : (y : Copying) → size (copy_items y) ≤ 10
-copy_size y = go y.from
-  where
-    go : (f : Option ℕ) → size (item.Op (instr.Plain (block_of f)) ∷ back_items f y) ≤ 10
-    go None =
-        let l2 = item.Op (instr.Mov (RegReg (register y.count) 11)) ∷ [] in
-        let x2 = one_item (item.Op (instr.Mov (RegReg (register y.count) 11))) 1 (omega arith) in
-        let x1 = more_size (item.Op (instr.Lea (register y.to) 13 (Some (Left 0xFFFFFFFF)))) l2 2 1 (omega arith) x2 in
-        let z = more_size (item.Op (instr.Plain SETS)) (item.Op (instr.Lea (register y.to) 13 (Some (Left 0xFFFFFFFF))) ∷ l2) 1 3 (omega arith) x1 in
-        omega (arith, z)
-    go (Some f) =
-        let l4 = item.Op (instr.Mov (RegAtReg (register y.cell) (register y.to))) ∷ [] in
-        let x4 = one_item (item.Op (instr.Mov (RegAtReg (register y.cell) (register y.to)))) 1 (omega arith) in
-        let l3 = item.Op (instr.Mov (RegReg (register y.count) 11)) ∷ l4 in
-        let x3 = more_size (item.Op (instr.Mov (RegReg (register y.count) 11))) l4 1 1 (omega arith) x4 in
-        let l2 = item.Op (instr.Lea (register y.to) 13 (Some (Left 0xFFFFFFFF))) ∷ l3 in
-        let x2 = more_size (item.Op (instr.Lea (register y.to) 13 (Some (Left 0xFFFFFFFF)))) l3 2 2 (omega arith) x3 in
-        let x1 = more_size (item.Op (instr.Lea (register f) 12 (Some (Left 0xFFFFFFFF)))) l2 2 4 (omega arith) x2 in
-        let z = more_size (item.Op (instr.Plain MOVS)) (item.Op (instr.Lea (register f) 12 (Some (Left 0xFFFFFFFF))) ∷ l2) 1 6 (omega arith) x1 in
-        omega (arith, z)
+asked_size : (b : Bool) (x : AsmItem) (k : ℕ) → item_size x ≤ k → size (when b x) ≤ k
+asked_size true x k le = one_item x k le
+asked_size false x k le = omega (arith, total_none)
 
-copied_size : (done : ℕ) (b : NodesT Where) (xs : List AsmItem) → size xs ≤ nodes_weight b + 8 → size (copy_or (copy_at done b) xs) ≤ nodes_weight b + 8
-copied_size zero b xs le = le
-copied_size (suc done) b xs le = go (copy_of b) refl
+copy_size : (y : Copying) (J : ℕ → Bool) → size (copy_items y J) ≤ 10
+copy_size y J = go y.from
   where
-    go : (x : Option Copying) → copy_of b ≡ x → size (copy_or x xs) ≤ nodes_weight b + 8
+    go : (f : Option ℕ) → size (item.Op (instr.Plain (block_of f)) ∷ back_items f y J) ≤ 10
+    go None =
+        let c = when (J y.count) (item.Op (instr.Mov (RegReg (register y.count) 11))) in
+        let t = when (J y.to) (last_item y.to 13) in
+        let s = total_append t c in
+        let z = total_more (item.Op (instr.Plain SETS)) (t ++ c) in
+        let x1 = asked_size (J y.to) (last_item y.to 13) 2 (omega arith) in
+        let x2 = asked_size (J y.count) (item.Op (instr.Mov (RegReg (register y.count) 11))) 1 (omega arith) in
+        let x0 : item_size (item.Op (instr.Plain SETS)) ≤ 1 = omega arith in
+        omega (arith, x0, x1, x2, s, z)
+    go (Some f) =
+        let d = when (J y.cell) (item.Op (instr.Mov (RegAtReg (register y.cell) (register y.to)))) in
+        let c = when (J y.count) (item.Op (instr.Mov (RegReg (register y.count) 11))) in
+        let t = when (J y.to || J y.cell) (last_item y.to 13) in
+        let l = when (J f) (last_item f 12) in
+        let s3 = total_append c d in
+        let s2 = total_append t (c ++ d) in
+        let s1 = total_append l (t ++ (c ++ d)) in
+        let z = total_more (item.Op (instr.Plain MOVS)) (l ++ (t ++ (c ++ d))) in
+        let x1 = asked_size (J f) (last_item f 12) 2 (omega arith) in
+        let x2 = asked_size (J y.to || J y.cell) (last_item y.to 13) 2 (omega arith) in
+        let x3 = asked_size (J y.count) (item.Op (instr.Mov (RegReg (register y.count) 11))) 1 (omega arith) in
+        let x4 = asked_size (J y.cell) (item.Op (instr.Mov (RegAtReg (register y.cell) (register y.to)))) 1 (omega arith) in
+        let x0 : item_size (item.Op (instr.Plain MOVS)) ≤ 1 = omega arith in
+        omega (arith, x0, x1, x2, x3, x4, s1, s2, s3, z)
+
+copied_size : (done : ℕ) (b : NodesT Where) (J : ℕ → Bool) (xs : List AsmItem) → size xs ≤ nodes_weight b + 8 → size (copy_or (copy_at done b) J xs) ≤ nodes_weight b + 8
+copied_size zero b J xs le = le
+copied_size (suc done) b J xs le = go (copy_of b) refl
+  where
+    go : (x : Option Copying) → copy_of b ≡ x → size (copy_or x J xs) ≤ nodes_weight b + 8
     go None e = le
     go (Some y) e =
-        let z = copy_size y in
+        let z = copy_size y J in
         elim (copy_is b y e) [
           | inl q ↦ let w : nodes_weight b ≡ nodes_weight (copy_turn q.registers) = ap nodes_weight q.nodes in omega (arith, w, z)
           | inr q ↦ let w : nodes_weight b ≡ nodes_weight (fill_turn q.registers) = ap nodes_weight q.nodes in omega (arith, w, z)
@@ -444,9 +463,10 @@ module _ (x : CodeT Where) (W : Whole) (counts : Counts x W) (m : ℕ) (F : Fram
         let all = items_past W F out (inside (ends last c)) (ls ++ n ∷ []) (n + 2) b 0 in
         let part = part_items W F out (ls ++ n ∷ []) (n + 2) b in
         let test = test_items W F out (n + 2) b 0 in
-        let s = total_append (copy_or (copy_at done b) (looped (is_tested b) n all part test)) (items_past W F out last ls (n + (2 + labels b)) c 0) in
+        let asked = live_soon ahead F.lasting c in
+        let s = total_append (copy_or (copy_at done b) asked (looped (is_tested b) n all part test)) (items_past W F out last ls (n + (2 + labels b)) c 0) in
         let l = looped_size (is_tested b) n (nodes_weight b) all part test (whole _ _ _ (past_size b 0 (inside (ends last c)) (true ∷ bs) (ls ++ n ∷ []) (n + 2) ok.0)) (whole _ _ _ (parts_size b 0 (true ∷ bs) (ls ++ n ∷ []) (n + 2) (n + 2) ok.0)) in
-        let h = copied_size done b (looped (is_tested b) n all part test) l in
+        let h = copied_size done b asked (looped (is_tested b) n all part test) l in
         omega (arith, s, h, past_size c 0 last bs ls (n + (2 + labels b)) ok.1)
     past_size (Leave k c) done last bs ls n ok = let j = jump_size (add (enclosing ls k) 1) in let s = total_more (jump (add (enclosing ls k) 1)) (items_past W F out last ls n c 0) in omega (arith, s, j, past_size c 0 last bs ls n ok.1)
     past_size (Again k c) done last bs ls n ok = let s = total_append (again ls k (ends last c)) (items_past W F out last ls n c 0) in omega (arith, s, again_size ls k (ends last c), past_size c 0 last bs ls n ok.1)

@@ -51,7 +51,7 @@ NoPuts (Do o c) (suc k) = (puts o ≡ false) × NoPuts c k
 NoPuts _ k = Unit {0}
 
 module _ (S : Setting) (f : ℕ) where
-  named_uses : (o : OpT Where) → Fitting S f o → AllOf (Named S f) (uses o)
+  pub named_uses : (o : OpT Where) → Fitting S f o → AllOf (Named S f) (uses o)
   named_uses (ConstO t n) g = tt
   named_uses (NullO t) g = tt
   named_uses (MoveO t p) g = (g.1, tt)

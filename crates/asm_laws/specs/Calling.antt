@@ -1,10 +1,10 @@
 -- How the machine holds the states of placed code, and where its parts stand.
-use Rattle.std.specs.Prelude.{◌≡◌, ℕ, ◌<◌, ◌⊎◌, true, false, List, [], length, get_or, Option, Some, None}
+use Rattle.std.specs.Prelude.{◌≡◌, ℕ, ◌<◌, ◌⊎◌, Bool, true, false, List, [], length, get_or, Option, Some, None}
 use Rattle.v32_isa.specs.State.{register_of, word_at}
 use Rattle.v32_isa.specs.State as machine
 use Rattle.mid_code.specs.declared.placed.Where.{Where}
-use Rattle.mid_code.specs.declared.placed.Where.TheVariants.{Reg}
-use Rattle.mid_code.specs.Code.{OpT, NodesT, Do, maybe}
+use Rattle.mid_code.specs.declared.placed.Where.TheVariants.{Reg, Slot}
+use Rattle.mid_code.specs.Code.{OpT, NodesT, Do, Loop, maybe}
 use Rattle.mid_code.specs.Meaning.{Lang}
 use Rattle.mid_code.specs.States.{State, registers_and_slots, function_at, over_worlds}
 use Rattle.mid_code.specs.Invariants.{AllOf, AreDifferent, Names}
@@ -17,7 +17,8 @@ use Rattle.asm_laws.specs.declared.made.Made.{Made}
 use Rattle.asm_laws.specs.Operations.{group_items, group_more, made_of, made_items, call_items, giving}
 use Rattle.asm_laws.specs.Standing.{Stand}
 use Rattle.asm_laws.specs.declared.copying.Copying.{Copying}
-use Rattle.asm_laws.specs.Copies.{copy_at, copy_items, is_moved, source, is_count}
+use Rattle.asm_laws.specs.Copies.{copy_at, copy_items, is_moved, is_left, source, is_count}
+use Rattle.asm_laws.specs.Live.{lasts, live, live_soon, ahead}
 use Rattle.asm_laws.specs.Tests.{Tests}
 use Rattle.asm_laws.specs.Addresses.{Addr, having, Held}
 use Rattle.asm_laws.specs.Spare.{Stays, Sparing}
@@ -63,22 +64,22 @@ pub record EndedIn (S : Setting) (s : State Where) (m : machine.State) : Type 0 
 
 -- Before a loop that copies or fills words, of which the count is known and 1, the machine's registers of block moves have the words of three places. What
 -- these places have themselves is nobody's business, since the loop changes them.
-pub record ReadyFor (S : Setting) (κ : Ctx) (y : Copying) (s : State Where) (m : machine.State) : Type 0 where
+pub record ReadyFor (S : Setting) (κ : Ctx) (y : Copying) (asked : Bool) (s : State Where) (m : machine.State) : Type 0 where
   pub place : ℕ → ℕ
   pub words : Addr
   pub at : HoldsAt S κ s.world.store s.cells place words
   pub registers : ℕ → ℕ
   pub held : Held S.console (having registers words) m
-  pub like : (r : ℕ) → r < (S.whole.frames κ.fn).registers → is_moved y r ≡ false → registers r ≡ words.regs r
+  pub like : (r : ℕ) → r < (S.whole.frames κ.fn).registers → is_moved y r ≡ false → is_left y asked r ≡ false → registers r ≡ words.regs r
   pub target : register_of m 13 ≡ words.regs y.to
   pub read : register_of m 12 ≡ words.regs (source y.from y)
   pub count : register_of m 11 ≡ words.regs y.count
   pub known : (n : ℕ) × (s.cells (Reg y.count) ≡ Num n) × (is_count (Some n) ≡ true)
   pub one : s.cells (Reg y.one) ≡ Num 1
 
-abbrev pub Ready : (S : Setting) → Ctx → Option Copying → State Where → machine.State → Type 0
-Ready S κ None s m = Mach S κ s m
-Ready S κ (Some y) s m = ReadyFor S κ y s m
+abbrev pub Ready : (S : Setting) → Ctx → (asked : ℕ → Bool) → Option Copying → State Where → machine.State → Type 0
+Ready S κ J None s m = Mach S κ s m
+Ready S κ J (Some y) s m = ReadyFor S κ y (J y.one) s m
 
 -- A function ends at an address: its body does, or its frame is taken away there, and it goes back. The start was not called and cannot.
 abbrev pub ExitAt : Setting → (f pc : ℕ) → Type 0
@@ -92,7 +93,7 @@ lang S = over_worlds registers_and_slots S.code S.frames
 abbrev pub holder : (S : Setting) → Holder (lang S)
 holder S = record {
   K = Ctx;
-  M = Mach S;
+  M = λ κ c. Mach S κ;
   G = Given S;
   E = EndedIn S;
   answers = λ s. s.world.store.answers;
@@ -101,7 +102,41 @@ holder S = record {
   fn = λ κ. κ.fn;
   entry = S.enters;
   exits = ExitAt S;
-  ready = λ κ b k s m. Ready S κ (copy_at k b) s m;
+  ready = λ κ b c k s m. Ready S κ (live_soon ahead (S.whole.frames κ.fn).lasting c) (copy_at k b) s m;
+}
+
+-- ---- where registers are not live
+
+-- The same state but for registers that are not among these.
+pub record Same (J : ℕ → Bool) (t s : State Where) : Type 0 where
+  pub world : t.world ≡ s.world
+  pub given : t.given ≡ s.given
+  pub slots : (k : ℕ) → t.cells (Slot k) ≡ s.cells (Slot k)
+  pub regs : (r : ℕ) → r < 9 → J r ≡ true → t.cells (Reg r) ≡ s.cells (Reg r)
+
+-- the machine stands so with such a state
+pub record Like (J : ℕ → Bool) (R : State Where → machine.State → Type 0) (s : State Where) (m : machine.State) : Type 0 where
+  pub other : State Where
+  pub same : Same J other s
+  pub held : R other m
+
+abbrev pub live_at : Setting → Ctx → NodesT Where → ℕ → Bool
+live_at S κ c = live (S.whole.frames κ.fn).lasting c
+
+-- the machine holds a state but for registers that are not live
+abbrev pub live_holder : (S : Setting) → Holder (lang S)
+live_holder S = record {
+  K = Ctx;
+  M = λ κ c. Like (live_at S κ c) (Mach S κ);
+  G = Given S;
+  E = λ s m. (t : State Where) × (t.world ≡ s.world) × EndedIn S t m;
+  answers = λ s. s.world.store.answers;
+  events = λ s. s.world.events;
+  work = λ s. s.world.work;
+  fn = λ κ. κ.fn;
+  entry = S.enters;
+  exits = ExitAt S;
+  ready = λ κ b c k. Like (live_at S κ (Loop b c)) (Ready S κ (live_soon ahead (S.whole.frames κ.fn).lasting c) (copy_at k b));
 }
 
 -- a call of a function
@@ -150,9 +185,11 @@ shapes S = record {
       × Stays (S.whole.frames f).registers w;
   giving = GivingAt S;
   made = MadeAt S;
-  copy = λ f pc b k p. (y : Copying) × (copy_at k b ≡ Some y) × Stand S.console.words S.address pc (copy_items y) p × Names (Named S f) b
+  copy = λ f pc b c k p. (y : Copying) × (copy_at k b ≡ Some y)
+      × Stand S.console.words S.address pc (copy_items y (live_soon ahead (S.whole.frames f).lasting c)) p × Names (Named S f) b
       × Sparing (S.whole.frames f).registers b 0;
   plain = λ b k. copy_at k b ≡ None;
+  opens = λ f c. (r : ℕ) → r < 9 → live (S.whole.frames f).lasting c r ≡ true → lasts (S.whole.frames f).lasting r ≡ true;
 }
 
 -- a function stands among the words

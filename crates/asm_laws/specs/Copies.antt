@@ -1,4 +1,4 @@
--- Loops that copy words one by one, or fill them with one word, and the operations that put known words into registers before them.
+-- Loops that copy words one by one, or fill them with one word, and the operations that put words into registers before them.
 use Rattle.std.specs.Prelude.{ℕ, zero, suc, ◌+◌, ◌==◌, ◌&&◌, not, ◌||◌, nat_lt, cond, Bool, true, false, List, [], ◌∷◌, ◌++◌, Option, Some, None}
 use Rattle.either.specs.declared.Either.TheVariants.{Left}
 use Rattle.v32_isa.specs.declared.instruction.Plain.{Plain}
@@ -106,8 +106,13 @@ is_from (Some f) r = r == f
 abbrev pub is_moved : Copying → (register : ℕ) → Bool
 is_moved y r = (r == y.to) || (is_from y.from r || (r == y.count))
 
+-- The register of the 1, which a block move does without, where it is not asked for behind the loop: no word is put there.
+abbrev pub is_left : Copying → (asked : Bool) → (register : ℕ) → Bool
+is_left y asked r = (r == y.one) && not asked
+
+-- whether a place is one of these
 abbrev pub reads_moved : Copying → Where → Bool
-reads_moved y (Reg q) = is_moved y q
+reads_moved y (Reg q) = is_moved y q || (q == y.one)
 reads_moved y (Slot k) = false
 
 -- how many these are, where so many came before; at most 8, and none takes its word from such a register
@@ -189,7 +194,8 @@ abbrev pub move_items : Copying → NodesT Where → List AsmItem
 move_items y c = move_item (is_put y.to false c) 13 y.to
     ++ (move_item (source_put y.from false c) 12 (source y.from y) ++ move_item (is_put y.count false c) 11 y.count)
 
--- A word is written in each step. Then the registers have what the loop leaves in them: the addresses of the last words, 0, and the last word that was read.
+-- A word is written in each step. Then those registers that are asked for get what the loop leaves in them: the addresses of the last words, 0, and the last
+-- word that was read.
 abbrev pub block_of : (from : Option ℕ) → Plain
 block_of None = SETS
 block_of (Some f) = MOVS
@@ -197,14 +203,20 @@ block_of (Some f) = MOVS
 abbrev pub last_item : (address past : ℕ) → AsmItem
 last_item r q = item.Op (instr.Lea (register r) q (Some (Left 0xFFFFFFFF)))
 
-abbrev pub back_items : (from : Option ℕ) → Copying → List AsmItem
-back_items None y = last_item y.to 13 ∷ item.Op (instr.Mov (RegReg (register y.count) 11)) ∷ []
-back_items (Some f) y = last_item f 12 ∷ last_item y.to 13 ∷ item.Op (instr.Mov (RegReg (register y.count) 11))
-    ∷ item.Op (instr.Mov (RegAtReg (register y.cell) (register y.to))) ∷ []
+-- each of these where its register is asked for
+abbrev pub when : Bool → AsmItem → List AsmItem
+when b i = cond b (i ∷ []) []
 
-abbrev pub copy_items : Copying → List AsmItem
-copy_items y = item.Op (instr.Plain (block_of y.from)) ∷ back_items y.from y
+abbrev pub back_items : (from : Option ℕ) → Copying → (asked : ℕ → Bool) → List AsmItem
+back_items None y J = when (J y.to) (last_item y.to 13) ++ when (J y.count) (item.Op (instr.Mov (RegReg (register y.count) 11)))
+back_items (Some f) y J = when (J f) (last_item f 12)
+    ++ (when (J y.to || J y.cell) (last_item y.to 13)
+    ++ (when (J y.count) (item.Op (instr.Mov (RegReg (register y.count) 11)))
+    ++ when (J y.cell) (item.Op (instr.Mov (RegAtReg (register y.cell) (register y.to))))))
 
-abbrev pub copy_or : Option Copying → (other : List AsmItem) → List AsmItem
-copy_or None other = other
-copy_or (Some y) other = copy_items y
+abbrev pub copy_items : Copying → (asked : ℕ → Bool) → List AsmItem
+copy_items y J = item.Op (instr.Plain (block_of y.from)) ∷ back_items y.from y J
+
+abbrev pub copy_or : Option Copying → (asked : ℕ → Bool) → (other : List AsmItem) → List AsmItem
+copy_or None J other = other
+copy_or (Some y) J other = copy_items y J

@@ -3,6 +3,7 @@ pub mod Moves
 pub mod Pieces
 pub mod Spare
 pub mod Copies
+pub mod Live
 pub mod Operations
 pub mod Framing
 pub mod Placing

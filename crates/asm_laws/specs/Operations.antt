@@ -28,7 +28,8 @@ use Rattle.asm_laws.specs.declared.made.Made.{Made}
 use Rattle.asm_laws.specs.declared.made.Made.TheVariants.{Both, Known}
 use Rattle.asm_laws.specs.Spare.{operand, used_by}
 use Rattle.asm_laws.specs.declared.copying.Copying.{Copying}
-use Rattle.asm_laws.specs.Copies.{lead, goes_to, move_items}
+use Rattle.asm_laws.specs.Copies.{lead, put_into, is_left, goes_to, move_items}
+use Rattle.asm_laws.specs.Live.{all_last, asked_behind}
 
 -- the frame of a function: its size, and the offsets of its slots and of its locals' first words. Offset 0 is the
 -- frame's lowest word. A slot that is not listed has its number as its offset. So many of its words are on the stack: all, but none of the start's
@@ -39,6 +40,8 @@ pub record Frame : Type 0 where
   pub depth : ℕ
   -- how many registers, from the first one on, hold places between operations: 9, or 8 where register 8 is spare
   pub registers : ℕ
+  -- and which of the first nine do between stretches of nodes
+  pub lasting : List Bool
 
 -- the frame of each function, the places that take its arguments, its name, the addresses of the globals
 pub record Whole : Type 0 where
@@ -331,22 +334,29 @@ abbrev pub more_of : Option (ℕ × Option (Instr Imm) × Instr Imm) → ℕ
 more_of None = 0
 more_of (Some (more, first, i)) = more
 
--- The operations that come first before a loop that copies words put each its word where it goes, so many of them.
-abbrev pub put_items : Whole → Frame → Copying → OpT Where → List AsmItem
-put_items W F y (ConstO (Reg r) n) = sets F (Reg (goes_to y r)) (Left n)
-put_items W F y (GlobalO (Reg r) k) = sets F (Reg (goes_to y r)) (Left (get_or W.globals k 0))
-put_items W F y (LocalO (Reg r) k) = item.Op (instr.Lea (aim (Reg (goes_to y r))) 15 (Some (Left (local_word F k)))) ∷ []
-put_items W F y (MoveO (Reg r) p) = moves F (Reg (goes_to y r)) p
-put_items W F y o = []
+-- The operations that come first before a loop that copies words put each its word where it goes, so many of them, but for a word that the loop leaves.
+abbrev pub word_items : Whole → Frame → Copying → OpT Where → List AsmItem
+word_items W F y (ConstO (Reg r) n) = sets F (Reg (goes_to y r)) (Left n)
+word_items W F y (GlobalO (Reg r) k) = sets F (Reg (goes_to y r)) (Left (get_or W.globals k 0))
+word_items W F y (LocalO (Reg r) k) = item.Op (instr.Lea (aim (Reg (goes_to y r))) 15 (Some (Left (local_word F k)))) ∷ []
+word_items W F y (MoveO (Reg r) p) = moves F (Reg (goes_to y r)) p
+word_items W F y o = []
 
-abbrev pub puts_items : Whole → Frame → Copying → NodesT Where → (count : ℕ) → List AsmItem
-puts_items W F y (Do o c) (suc k) = put_items W F y o ++ puts_items W F y c k
-puts_items W F y _ k = []
+abbrev pub unless_left : Copying → (asked : Bool) → Option ℕ → List AsmItem → List AsmItem
+unless_left y asked None xs = xs
+unless_left y asked (Some r) xs = cond (is_left y asked r) [] xs
+
+abbrev pub put_items : Whole → Frame → Copying → (asked : Bool) → OpT Where → List AsmItem
+put_items W F y asked o = unless_left y asked (put_into o) (word_items W F y o)
+
+abbrev pub puts_items : Whole → Frame → Copying → (asked : Bool) → NodesT Where → (count : ℕ) → List AsmItem
+puts_items W F y asked (Do o c) (suc k) = put_items W F y asked o ++ puts_items W F y asked c k
+puts_items W F y asked _ k = []
 
 -- The items of an operation and of those that are done with it, and how many are; before such a loop that is one of these.
 abbrev pub led_items : Whole → Frame → OpT Where → NodesT Where → Option (ℕ × Copying) → List AsmItem
 led_items W F o c None = one_or_more W F o (in_one W F o c)
-led_items W F o c (Some (k, y)) = puts_items W F y (Do o c) k ++ move_items y (Do o c)
+led_items W F o c (Some (k, y)) = puts_items W F y (asked_behind F.lasting c y.one) (Do o c) k ++ move_items y (Do o c)
 
 abbrev pub led_more : Whole → Frame → OpT Where → NodesT Where → Option (ℕ × Copying) → ℕ
 led_more W F o c None = more_of (in_one W F o c)
@@ -419,7 +429,7 @@ next_more W F o c = made_more (made_of W F o c) (group_more W F o c)
 
 -- the start's slots lie where the frame of main comes to stand
 abbrev pub start_frame : Frame
-start_frame = record { slots = []; locals = []; size = 1000000; depth = 0; registers = 9 }
+start_frame = record { slots = []; locals = []; size = 1000000; depth = 0; registers = 9; lasting = all_last }
 
 -- a literal: its label, its words and a zero
 abbrev pub literal_items : ℕ → List ℕ → List AsmItem

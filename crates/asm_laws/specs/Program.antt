@@ -1,5 +1,5 @@
 -- A program of placed code among its words, as the emitter promises it.
-use Rattle.std.specs.Prelude.{◌≡◌, ℕ, ◌<◌, true, List, [], ◌∷◌, length, slice_get, Option, Some, None}
+use Rattle.std.specs.Prelude.{◌≡◌, ℕ, ◌<◌, true, List, [], ◌∷◌, false, length, slice_get, Option, Some, None}
 use Rattle.either.specs.declared.Either.TheVariants.{Right}
 use Rattle.v32_isa.specs.declared.instruction.Plain.TheVariants.{HLT}
 use Rattle.v32_isa.specs.declared.instruction.Go.TheVariants.{CALL}
@@ -18,6 +18,7 @@ use Rattle.asm_laws.specs.Operations.{group_items, group_more, made_of, made_ite
 use Rattle.asm_laws.specs.Standing.{Stand}
 use Rattle.asm_laws.specs.declared.copying.Copying.{Copying}
 use Rattle.asm_laws.specs.Copies.{copy_at, copy_items}
+use Rattle.asm_laws.specs.Live.{live_soon, ahead, Lasts}
 use Rattle.asm_laws.specs.Spare.{Sparing}
 use Rattle.asm_laws.specs.Tests.{Tests}
 use Rattle.asm_laws.specs.Framing.{frame_made, frame_gone}
@@ -38,8 +39,10 @@ items_at S = record {
   made = λ f pc o c. (more : ℕ) × (made : Made) × (made_of S.whole (S.whole.frames f) o c ≡ Some (more, made))
       × (q : ℕ) × Stand S.console.words S.address pc (made_items (S.whole.frames f) made) q
       × (out : ℕ) × Passes S.console.words q out × ExitAt S f out;
-  copy = λ f pc b k p. (y : Copying) × (copy_at k b ≡ Some y) × Stand S.console.words S.address pc (copy_items y) p;
+  copy = λ f pc b c k p. (y : Copying) × (copy_at k b ≡ Some y)
+      × Stand S.console.words S.address pc (copy_items y (live_soon ahead (S.whole.frames f).lasting c)) p;
   plain = λ b k. copy_at k b ≡ None;
+  opens = λ f c. Unit {0};
 }
 
 -- a function stands among the words
@@ -72,11 +75,13 @@ pub record Program (S : Setting) (boot rest : ℕ) (card : Option (List ℕ)) : 
   pub start_names : Names (Named S boot) S.code.start.body
   pub start_sound : Sound S boot
   pub start_spares : Sparing (S.whole.frames boot).registers S.code.start.body 0
+  pub start_lasts : Lasts (S.whole.frames boot).lasting (λ r. false) S.code.start.body 0
   pub start_quiet : CallsNone S.code.start.body
   pub nodes : (g : ℕ) → Callable S g → AreNodes S.code (length (S.locals g)) [] (function_at S.code g).body
   pub names : (g : ℕ) → Callable S g → Names (Named S g) (function_at S.code g).body
   pub sound : (g : ℕ) → Callable S g → Sound S g
   pub spares : (g : ℕ) → Callable S g → Sparing (S.whole.frames g).registers (function_at S.code g).body 0
+  pub lasts : (g : ℕ) → Callable S g → Lasts (S.whole.frames g).lasting (λ r. false) (function_at S.code g).body 0
   pub calls : (f : ℕ) → Callable S f → (g : ℕ) (fn : FunctionT Where) → slice_get S.code.functions g ≡ Some fn
       → (depth_of S f ≡ (S.whole.frames f).size) × Callable S g × (S.whole.params g ≡ fn.params)
   pub main : Callable S S.code.main

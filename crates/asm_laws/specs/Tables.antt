@@ -3,6 +3,7 @@ use Rattle.std.specs.Prelude.{ℕ, ◌+◌, ◌-◌, ◌<◌, cond, ltb, eqb, Li
 use Rattle.mid_code.specs.Placed.{SpotsT, PlacedT}
 use Rattle.mid_code.specs.States.{function_at}
 use Rattle.asm_laws.specs.Spare.{held_registers}
+use Rattle.asm_laws.specs.Live.{all_last, lasting_registers}
 use Rattle.asm_laws.specs.Operations.{Frame, Whole, start_frame}
 use Rattle.asm_laws.specs.Laid.{spread, literal_sizes}
 use Rattle.asm_laws.specs.Linked.{Plan}
@@ -26,9 +27,10 @@ frame_for x OfFunction f = record {
   size = get_or x.frames f 0;
   depth = get_or x.frames f 0;
   registers = held_registers (function_at x.code f).body;
+  lasting = lasting_registers (function_at x.code f).body;
 }
 frame_for x OfStart f = start_frame
-frame_for x OfRest f = record { slots = []; locals = []; size = 0; depth = 0; registers = 9 }
+frame_for x OfRest f = record { slots = []; locals = []; size = 0; depth = 0; registers = 9; lasting = all_last }
 
 abbrev pub slot_for : PlacedT → Number → (f k : ℕ) → Type 0
 slot_for x OfFunction f k = k < length (spots_at x f).slots

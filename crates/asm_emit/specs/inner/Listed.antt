@@ -8,14 +8,15 @@ use Rattle.asm_items.specs.Items.{Imm}
 use Rattle.mid_code.specs.declared.placed.Where.{Where}
 use Rattle.mid_code.specs.declared.node.Op.{Op}
 use Rattle.mid_code.specs.declared.node.Op.TheVariants as op
-use Rattle.mid_code.specs.Code.{NodesT, OpT, Do, Call, Return, Stop}
+use Rattle.mid_code.specs.Code.{NodesT, OpT, Do, Call, Loop, Return, Stop}
 use Rattle.mid_code.specs.Functions.{op_before, NodeT, DoN, ChooseN, BlockN, LoopN, LeaveN, AgainN, ReturnN, ListT, NoN, MoreN, before, joined}
 use Rattle.asm_laws.specs.Operations.{Frame, Whole, op_items, word_put, with_word, is_spared, with_known, in_one, before_it, call_items}
 use Rattle.asm_laws.specs.declared.made.Made.{Made}
-use Rattle.asm_laws.specs.Operations.{hand, brings, put_items, puts_items, giving, given_first, made_both, made_with, first_made, made_of, made_or}
+use Rattle.asm_laws.specs.Operations.{hand, brings, word_items, unless_left, puts_items, giving, given_first, made_both, made_with, first_made, made_of, made_or}
 use Rattle.asm_laws.specs.Spare.{used_by}
 use Rattle.asm_laws.specs.declared.copying.Copying.{Copying}
-use Rattle.asm_laws.specs.Copies.{reads_moved, puts_ahead, last_put, is_count, is_one, lead, move_items, copy_at, copy_or}
+use Rattle.asm_laws.specs.Copies.{put_into, reads_moved, puts_ahead, last_put, is_count, is_one, lead, move_items, copy_at, copy_or}
+use Rattle.asm_laws.specs.Live.{live_soon, ahead}
 use Rattle.asm_laws.specs.declared.behind.Behind.{Behind}
 use Rattle.asm_laws.specs.declared.behind.Behind.TheVariants.{Other, End, Turn}
 use Rattle.asm_laws.specs.inner.Emitted.{enclosing, jump, alone, choice, enclosed, left_by, inside, is_end, again, looped, jump_when}
@@ -73,10 +74,20 @@ abbrev pub is_call : Op Where → Bool
 is_call (op.Call t f args) = true
 is_call _ = false
 
+-- the registers that a block move puts back before nodes
+unfoldable pub asked : (lasting : List Bool) → NodesT Where → (register : ℕ) → Bool
+asked h c = live_soon ahead h c
+
+-- whether a register is asked for behind a loop that comes behind operations
+unfoldable pub led_asked : (lasting : List Bool) → NodesT Where → (register : ℕ) → Bool
+led_asked h (Do o c) r = led_asked h c r
+led_asked h (Loop b c) r = asked h c r
+led_asked h _ r = true
+
 -- what is done ahead with an operation that stands first: words that are put into registers before a loop that copies words, or what is done in one go
 abbrev pub led_ahead : Whole → Frame → OpT Where → NodesT Where → Option (ℕ × Copying) → List AsmItem
 led_ahead W F o c None = ahead_items (in_one W F o c)
-led_ahead W F o c (Some (j, y)) = puts_items W F y (Do o c) j ++ move_items y (Do o c)
+led_ahead W F o c (Some (j, y)) = puts_items W F y (led_asked F.lasting c y.one) (Do o c) j ++ move_items y (Do o c)
 
 abbrev pub led_behind : Whole → Frame → OpT Where → NodesT Where → Option (ℕ × Copying) → Option ℕ
 led_behind W F o c None = ahead_more (in_one W F o c)
@@ -119,18 +130,25 @@ abbrev pub front_more : Whole → Frame → NodesT Where → (done : ℕ) → Op
 front_more W F (Do o c) k = cond (k == 0) (more_ahead (made_of W F o c) (led_behind W F o c (lead (Do o c)))) (Some (k - 1))
 front_more W F _ k = None
 
--- a loop that copies words is done by a block move, where so many operations in front are done already
-abbrev pub copied_own : (done : ℕ) → NodeT Where → List AsmItem → List AsmItem
-copied_own k (LoopN b) own = copy_or (copy_at k (joined b)) own
-copied_own k _ own = own
+-- a loop that copies words is done by a block move, where so many operations in front are done already and these registers are asked for
+abbrev pub copied_own : (done : ℕ) → NodeT Where → (back : ℕ → Bool) → List AsmItem → List AsmItem
+copied_own k (LoopN b) J own = copy_or (copy_at k (joined b)) J own
+copied_own k _ J own = own
 
--- what puts the word of an operation where it goes, where so many are left, and how many are left behind it
-abbrev pub front_there : Whole → Frame → Copying → NodesT Where → List AsmItem
-front_there W F y (Do o c) = put_items W F y o
-front_there W F y _ = []
+-- what puts the word of an operation where it goes, but for one that is left, where so many are left; and how many are left behind it
+abbrev pub front_into : NodesT Where → Option ℕ
+front_into (Do o c) = put_into o
+front_into _ = None
 
-abbrev pub put_here : Whole → Frame → Copying → Op Where → (left : ℕ) → List AsmItem
-put_here W F y o k = cond (k == 0) [] (front_there W F y (op_before o Stop))
+abbrev pub front_words : Whole → Frame → Copying → NodesT Where → List AsmItem
+front_words W F y (Do o c) = word_items W F y o
+front_words W F y _ = []
+
+abbrev pub front_there : Whole → Frame → Copying → (asked : Bool) → NodesT Where → List AsmItem
+front_there W F y j c = unless_left y j (front_into c) (front_words W F y c)
+
+abbrev pub put_here : Whole → Frame → Copying → (asked : Bool) → Op Where → (left : ℕ) → List AsmItem
+put_here W F y j o k = cond (k == 0) [] (front_there W F y j (op_before o Stop))
 
 abbrev pub left_behind : Op Where → (left : ℕ) → Option ℕ
 left_behind o k = cond (k == 0) None (cond (is_call o) None (Some (k - 1)))
@@ -140,17 +158,17 @@ abbrev pub puts_from : Option ℕ → (puts : ℕ → List AsmItem) → List Asm
 puts_from None puts = []
 puts_from (Some k) puts = puts k
 
-abbrev pub put_first : Whole → Frame → Copying → NodeT Where → (left : ℕ) → List AsmItem
-put_first W F y (DoN o) k = put_here W F y o k
-put_first W F y _ k = []
+abbrev pub put_first : Whole → Frame → Copying → (asked : Bool) → NodeT Where → (left : ℕ) → List AsmItem
+put_first W F y j (DoN o) k = put_here W F y j o k
+put_first W F y j _ k = []
 
 abbrev pub left_after : NodeT Where → (left : ℕ) → Option ℕ
 left_after (DoN o) k = left_behind o k
 left_after _ k = None
 
-abbrev pub list_puts : Whole → Frame → Copying → ListT Where → (left : ℕ) → List AsmItem
-list_puts W F y NoN k = []
-list_puts W F y (MoreN x rest) k = put_first W F y x k ++ puts_from (left_after x k) (list_puts W F y rest)
+abbrev pub list_puts : Whole → Frame → Copying → (asked : Bool) → ListT Where → (left : ℕ) → List AsmItem
+list_puts W F y j NoN k = []
+list_puts W F y j (MoreN x rest) k = put_first W F y j x k ++ puts_from (left_after x k) (list_puts W F y j rest)
 
 -- the labels of a node whose own items are due
 abbrev pub labels_due : Option ℕ → ℕ → ℕ
@@ -235,7 +253,8 @@ module _ (W : Whole) (F : Frame) (out : Option ℕ) where
     list_past last ls n NoN k = []
     list_past last ls n (MoreN x rest) k =
         front_items W F (before x (joined rest)) k
-        ++ onward (front_more W F (before x (joined rest)) k) (copied_own k x (node_items (ends_in last rest) ls n x)) (list_past last ls n rest)
+        ++ onward (front_more W F (before x (joined rest)) k)
+        (copied_own k x (asked F.lasting (joined rest)) (node_items (ends_in last rest) ls n x)) (list_past last ls n rest)
         (list_past last ls (n + node_labels x) rest 0)
 
     -- what is done in a turn of a rotated loop

@@ -6,6 +6,7 @@ use Rattle.asm_laws.specs.inner.Emitted.{program_items, labels_of}
 use Rattle.asm_emit.specs.inner.Words.{AreWords, TextsAreWords}
 use Rattle.asm_emit.specs.EmittedFrom.{IsEmitted}
 use Rattle.asm_emit.specs.inner.Spared.{held_all}
+use Rattle.asm_emit.specs.inner.Lasting.{lasting_all}
 use Rattle.asm_emit.specs.inner.View.{whole_of_parts, wrapped_addresses}
 use Rattle.asm_emit.proofs.Emitting.{few_labels, few_function_numbers, few_literal_numbers, promised, if_ok}
 use Rattle.asm_emit.proofs.program.emit.Goals as goal
@@ -40,7 +41,7 @@ returns c =
     let sizes : c.as_slice-sizes.result.now ≡ x.frames = search rules in
     let small : AreWords x.frames = search rules in
     let texts : TextsAreWords x.code.literals = search rules in
-    let made = program_items (whole_of_parts (code c.code-code.result.now).functions (map spots c.spots.result.now) c.as_slice-sizes.result.now (held_all (code c.code-code.result.now).functions) c.args.names.now (wrapped_addresses 0 (code c.code-code.result.now).globals)) (code c.code-code.result.now) in
-    let due = program_items (whole_of_parts x.code.functions x.spots x.frames (held_all x.code.functions) c.args.names.now (wrapped_addresses 0 x.code.globals)) x.code in
-    let is : made ≡ due = λ i. program_items (whole_of_parts (same i).functions (stand i) (sizes i) (held_all (same i).functions) c.args.names.now (wrapped_addresses 0 (same i).globals)) (same i) in
+    let made = program_items (whole_of_parts (code c.code-code.result.now).functions (map spots c.spots.result.now) c.as_slice-sizes.result.now (held_all (code c.code-code.result.now).functions) (lasting_all (code c.code-code.result.now).functions) c.args.names.now (wrapped_addresses 0 (code c.code-code.result.now).globals)) (code c.code-code.result.now) in
+    let due = program_items (whole_of_parts x.code.functions x.spots x.frames (held_all x.code.functions) (lasting_all x.code.functions) c.args.names.now (wrapped_addresses 0 x.code.globals)) x.code in
+    let is : made ≡ due = λ i. program_items (whole_of_parts (same i).functions (stand i) (sizes i) (held_all (same i).functions) (lasting_all (same i).functions) c.args.names.now (wrapped_addresses 0 (same i).globals)) (same i) in
     record { emitted = if_ok (λ v. v.items) (IsEmitted x c.args.names.now) due (promised x c.args.names.now sound c.requires.can_be_emitted small texts) c.items_of.result (subst (λ y. IfOk c.items_of.result (λ v. v.items ≡ y)) is c.items_of.ensures) }

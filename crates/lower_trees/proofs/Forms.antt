@@ -94,26 +94,26 @@ lazy_adds h k op and x y ty t old mid new e some p q =
 
 assign_adds : (h : Shape) (k : TKindT) (x y : TExprT) (of ty : Ty) (t w : ℕ) (old mid new : Output) → k ≡ AssignK None x y → of ≡ type_of x → w ≡ old.next
     → AddsNodes old mid (λ n m. listing (low h x n (n + 1) m)) (temps x + 1) (sizes h x)
-    → AddsNodes mid new (λ n m. listing (low_value h y t (n + 2) m ▸ converted of (is_flag y) t ▸ stored h of w t)) (value_temps y + 2) (value_sizes h y)
+    → AddsNodes mid new (λ n m. listing (low_value h y t (n + 2) m ▸ converted of (is_flag y) t ▸ stored h of w t)) (value_temps y + 2 + 0) (value_sizes h y)
     → AddsNodes old new (λ n m. listing (low_kind h k ty t n m)) (temps_of k ty) (sizes_of h k)
 assign_adds h k x y of ty t w old mid new e ex ew p q =
     let n = old.next in
     let m = length old.locals.items in
     let u : n + (temps x + 1) ≡ behind_place x n = omega arith in
-    let count : temps x + 1 + (value_temps y + 2) ≡ temps_of (AssignK None x y) ty = omega arith in
+    let count : temps x + 1 + (value_temps y + 2 + 0) ≡ temps_of (AssignK None x y) ty = omega arith in
     subst (λ z. AddsNodes old new (λ n m. listing (low_kind h z ty t n m)) (temps_of z ty) (sizes_of h z)) (sym e) (then_more p q count refl
     ((λ i. listing (low h x n (n + 1) m) ++ (listing (low_value h y t (u i + 2) (m + length (sizes h x))) ++ listing (converted (ex i) (is_flag y) t) ++ listing (stored h (ex i) (ew i) t)))
     ∙ sym (three (listing (low h x n (n + 1) m)) (listing (low_value h y t (behind_place x n + 2) (m + length (sizes h x)))) (listing (converted (type_of x) (is_flag y) t)) (listing (stored h (type_of x) n t)))))
 
 compound_adds : (h : Shape) (k : TKindT) (op : BinOp) (x y : TExprT) (of ty : Ty) (t w : ℕ) (old mid new : Output) → k ≡ AssignK (Some op) x y → of ≡ type_of x → w ≡ old.next
     → AddsNodes old mid (λ n m. listing (low h x n (n + 1) m)) (temps x + 1) (sizes h x)
-    → AddsNodes mid new (λ n m. listing (low_value h y n (n + 2) m ▸ DoP (o.Load t w) ▸ operated h op of (type_of y) t t n (n + 1) ▸ converted of false t ▸ DoP (o.Store w t))) (value_temps y + 2) (value_sizes h y)
+    → AddsNodes mid new (λ n m. listing (low_value h y n (n + 2) m ▸ DoP (o.Load t w) ▸ operated h op of (type_of y) t t n (n + 1) ▸ converted of false t ▸ DoP (o.Store w t))) (value_temps y + 2 + 0) (value_sizes h y)
     → AddsNodes old new (λ n m. listing (low_kind h k ty t n m)) (temps_of k ty) (sizes_of h k)
 compound_adds h k op x y of ty t w old mid new e ex ew p q =
     let n = old.next in
     let m = length old.locals.items in
     let u : n + (temps x + 1) ≡ behind_place x n = omega arith in
-    let count : temps x + 1 + (value_temps y + 2) ≡ temps_of (AssignK (Some op) x y) ty = omega arith in
+    let count : temps x + 1 + (value_temps y + 2 + 0) ≡ temps_of (AssignK (Some op) x y) ty = omega arith in
     let from = behind_place x n in
     subst (λ z. AddsNodes old new (λ n m. listing (low_kind h z ty t n m)) (temps_of z ty) (sizes_of h z)) (sym e) (then_more p q count refl
     ((λ i. listing (low h x n (n + 1) m) ++ (listing (low_value h y (u i) (u i + 2) (m + length (sizes h x))) ++ (DoN (o.Load t (ew i)) ∷ []) ++ listing (operated h op (ex i) (type_of y) t t (u i) (u i + 1)) ++ listing (converted (ex i) false t) ++ (DoN (o.Store (ew i) t) ∷ [])))
@@ -121,17 +121,17 @@ compound_adds h k op x y of ty t w old mid new e ex ew p q =
 
 pub assignment_adds : (h : Shape) (k : TKindT) (op : Option BinOp) (x y : TExprT) (f : First) (ty : Ty) (t : ℕ) (old mid new : Output) → k ≡ AssignK op x y → ctype f.ty.now ≡ type_of x → f.temporary ≡ old.next
     → AddsNodes old mid (λ n m. listing (low h x n (n + 1) m)) (temps x + 1) (sizes h x)
-    → AddsNodes mid new (λ n m. listing (low_value h y (assigned_at op t n) (n + 2) m ▸ assigned h op f y t n)) (value_temps y + 2) (value_sizes h y)
+    → AddsNodes mid new (λ n m. listing (low_value h y (assigned_at op t n) (n + 2) m ▸ assigned h op f y t n)) (value_temps y + 2 + 0) (value_sizes h y)
     → AddsNodes old new (λ n m. listing (low_kind h k ty t n m)) (temps_of k ty) (sizes_of h k)
 assignment_adds h k None x y f ty t old mid new e ex ew p q = assign_adds h k x y (ctype f.ty.now) ty t f.temporary old mid new e ex ew p (grouped q)
   where
-    grouped : AddsNodes mid new (λ n m. listing (low_value h y t (n + 2) m ▸ (converted (ctype f.ty.now) (is_flag y) t ▸ stored h (ctype f.ty.now) f.temporary t))) (value_temps y + 2) (value_sizes h y)
-        → AddsNodes mid new (λ n m. listing (low_value h y t (n + 2) m ▸ converted (ctype f.ty.now) (is_flag y) t ▸ stored h (ctype f.ty.now) f.temporary t)) (value_temps y + 2) (value_sizes h y)
+    grouped : AddsNodes mid new (λ n m. listing (low_value h y t (n + 2) m ▸ (converted (ctype f.ty.now) (is_flag y) t ▸ stored h (ctype f.ty.now) f.temporary t))) (value_temps y + 2 + 0) (value_sizes h y)
+        → AddsNodes mid new (λ n m. listing (low_value h y t (n + 2) m ▸ converted (ctype f.ty.now) (is_flag y) t ▸ stored h (ctype f.ty.now) f.temporary t)) (value_temps y + 2 + 0) (value_sizes h y)
     grouped q = record { nodes = q.nodes ∙ ap (λ z. map node mid.nodes.items ++ z) (sym (append_assoc (listing (low_value h y t (mid.next + 2) (length mid.locals.items))) (listing (converted (ctype f.ty.now) (is_flag y) t)) (listing (stored h (ctype f.ty.now) f.temporary t)))); locals = q.locals; next = q.next }
 assignment_adds h k (Some op) x y f ty t old mid new e ex ew p q = compound_adds h k op x y (ctype f.ty.now) ty t f.temporary old mid new e ex ew p (grouped q)
   where
-    grouped : AddsNodes mid new (λ n m. listing (low_value h y n (n + 2) m ▸ (DoP (o.Load t f.temporary) ▸ operated h op (ctype f.ty.now) (type_of y) t t n (n + 1) ▸ converted (ctype f.ty.now) false t ▸ DoP (o.Store f.temporary t)))) (value_temps y + 2) (value_sizes h y)
-        → AddsNodes mid new (λ n m. listing (low_value h y n (n + 2) m ▸ DoP (o.Load t f.temporary) ▸ operated h op (ctype f.ty.now) (type_of y) t t n (n + 1) ▸ converted (ctype f.ty.now) false t ▸ DoP (o.Store f.temporary t))) (value_temps y + 2) (value_sizes h y)
+    grouped : AddsNodes mid new (λ n m. listing (low_value h y n (n + 2) m ▸ (DoP (o.Load t f.temporary) ▸ operated h op (ctype f.ty.now) (type_of y) t t n (n + 1) ▸ converted (ctype f.ty.now) false t ▸ DoP (o.Store f.temporary t)))) (value_temps y + 2 + 0) (value_sizes h y)
+        → AddsNodes mid new (λ n m. listing (low_value h y n (n + 2) m ▸ DoP (o.Load t f.temporary) ▸ operated h op (ctype f.ty.now) (type_of y) t t n (n + 1) ▸ converted (ctype f.ty.now) false t ▸ DoP (o.Store f.temporary t))) (value_temps y + 2 + 0) (value_sizes h y)
     grouped q =
         let n = mid.next in
         record { nodes = q.nodes ∙ ap (λ z. map node mid.nodes.items ++ z) (four (listing (low_value h y n (n + 2) (length mid.locals.items))) (DoN (o.Load t f.temporary) ∷ []) (listing (operated h op (ctype f.ty.now) (type_of y) t t n (n + 1))) (listing (converted (ctype f.ty.now) false t)) (DoN (o.Store f.temporary t) ∷ [])); locals = q.locals; next = q.next }

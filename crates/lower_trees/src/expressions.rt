@@ -1,5 +1,4 @@
 // Expressions, lowered.
-#![tactic(auto, using(crate::proofs::Joins::length_both))]
 
 ghost use Rattle.std.specs.Prelude.{◌≡◌, ◌≤◌, ◌+◌, ◌++◌, ◌∷◌, [], length, map, false, IfOk, OnOk};
 ghost use Rattle.c_types.specs.View.{ctype, texpr, texprs};
@@ -10,23 +9,22 @@ ghost use Rattle.lower_trees.specs.Counts.{unary_temps, temps, temps_of, temps_a
 ghost use Rattle.lower_trees.specs.Counts.{unary_sizes, sizes, sizes_of, sizes_all, value_sizes, one_size};
 ghost use Rattle.lower_trees.specs.Pieces.{◌▸◌, DoP};
 ghost use Rattle.lower_trees.specs.Parts.{structure_read, as_flag};
-ghost use Rattle.lower_trees.specs.Expressions.{second, spots, unary, low, low_kind, low_value, low_test, low_args};
-ghost use Rattle.lower_trees.specs.Expressions.{step_taken, called, lazy_choice};
+ghost use Rattle.lower_trees.specs.Expressions.{spots, unary, low, low_kind, low_value, low_test, low_args};
+ghost use Rattle.lower_trees.specs.Expressions.{called, lazy_choice};
 ghost use Rattle.lower_trees.specs.inner.Adding.{Adds, HasRoom};
-ghost use Rattle.lower_trees.specs.inner.Operands.{operand, operand_temps, operand_sizes, done, left, combined, assigned_at, assigned};
+ghost use Rattle.lower_trees.specs.inner.Operands.{operand, operand_temps, operand_sizes, done, behind, ahead, left, combined, second_at};
 ghost use Rattle.lower_trees.specs.View.{shape_of, tkind};
 
 use crate::cells::put;
 use crate::finishing::{
-    Callee, assign_by, assigned_at, call, choose_lazy, combine, convert_first, finish, later, lead,
-    leaf, step, take_structure,
+    Callee, ahead, call, choose_lazy, combine, finish, later, lead, leaf, second_at, take_structure,
 };
-use crate::kinds::{counts_up, gives_old, is_flag, is_place, lazy_of, tests_flag};
+use crate::kinds::{is_place, lazy_of, tests_flag};
 use crate::operands::{After, First, Second};
 use crate::output::Output;
 use crate::reading::Reading;
 use c_exprs::keeping;
-use c_tree::{BinOp, StepOp, UnOp};
+use c_tree::UnOp;
 use c_types::{CType, TExpr, TKind};
 use kit_base::Memory;
 use mid_code::Op;
@@ -58,16 +56,12 @@ fn operand(s: &Reading<'_>, x: &TExpr, place: bool, t: u32, out: &mut Output) ->
     ensures adds { OnOk result (Adds out.old out.new (operand (shape_of s.now) place (texpr x.now) t)
         (operand_temps place (texpr x.now)) (operand_sizes (shape_of s.now) place (texpr x.now))) }
 {
-    if place {
-        return kind(s, &x.kind, &x.ty, t, out);
-    }
-    if !is_place(x) {
+    if place || !is_place(x) {
         return kind(s, &x.kind, &x.ty, t, out);
     }
     match &x.ty {
         CType::Array(_, _) | CType::Void => kind(s, &x.kind, &x.ty, t, out),
-        CType::Struct(_) => structure(s, x, t, out),
-        CType::Union(_) => structure(s, x, t, out),
+        CType::Struct(_) | CType::Union(_) => structure(s, x, t, out),
         CType::Int | CType::Bool | CType::Enum(_) | CType::Pointer(_) => cell(s, x, t, out),
     }
 }
@@ -126,9 +120,12 @@ fn kind(s: &Reading<'_>, of: &TKind, ty: &CType, t: u32, out: &mut Output) -> Re
         },
         TKind::Assign(op, x, y) => {
             let place = first_operand(s, x, true, out)?;
-            assignment(s, y, *op, place, t, out)
+            second_operand(s, y, Second::Assign(*op), place, t, out)
         }
-        TKind::Step(op, x) => step_of(s, *op, x, t, out),
+        TKind::Step(op, x) => {
+            let place = out.take(2);
+            operand_then(s, x, true, After::Step(*op), place, t, out)
+        }
         TKind::Index(x, y) => {
             let first = first_operand(s, x, false, out)?;
             second_operand(s, y, Second::Element(ty), first, t, out)
@@ -156,9 +153,8 @@ fn unary(s: &Reading<'_>, op: UnOp, x: &TExpr, t: u32, out: &mut Output) -> Resu
         (unary_temps op (texpr x.now) (temps (texpr x.now))) (unary_sizes (shape_of s.now) op (texpr x.now) (sizes (shape_of s.now) (texpr x.now)))) }
 {
     match op {
-        UnOp::Deref => operand(s, x, false, t, out),
+        UnOp::Deref | UnOp::Plus => operand(s, x, false, t, out),
         UnOp::Address => operand(s, x, true, t, out),
-        UnOp::Plus => operand(s, x, false, t, out),
         UnOp::Not => operand_then(s, x, false, After::Negate, t, t, out),
         UnOp::Minus => operand_then(s, x, false, After::One(One::ISGN), t, t, out),
         UnOp::Flip => operand_then(s, x, false, After::One(One::NOT), t, t, out),
@@ -177,11 +173,12 @@ fn operand_then(
     out: &mut Output,
 ) -> Result<(), Memory>
     requires room { HasRoom out.old (operand_temps place (texpr x.now)) (operand_sizes (shape_of s.now) place (texpr x.now)) }
-    ensures adds { OnOk result (Adds out.old out.new (λ n m. operand (shape_of s.now) place (texpr x.now) r n m ▸ done after.entry (texpr x.now) r t)
+    requires next { behind after r ≤ 1000000 }
+    ensures adds { OnOk result (Adds out.old out.new (λ n m. operand (shape_of s.now) place (texpr x.now) r n m ▸ done (shape_of s.now) after.entry (texpr x.now) r t)
         (operand_temps place (texpr x.now)) (operand_sizes (shape_of s.now) place (texpr x.now))) }
 {
     operand(s, x, place, r, out)?;
-    finish(&mut out.nodes, after, x, r, t)
+    finish(s, &mut out.nodes, after, x, r, t)
 }
 
 /// Computes the first of two operands into the first free temporary.
@@ -216,14 +213,14 @@ fn second_operand(
     t: u32,
     out: &mut Output,
 ) -> Result<(), Memory>
-    requires room { HasRoom out.old (value_temps (texpr y.now) + 1 + left of) (value_sizes (shape_of s.now) (texpr y.now)) }
-    ensures adds { OnOk result (Adds out.old out.new (λ n m. low_value (shape_of s.now) (texpr y.now) n (n + 1) m
-        ▸ combined (shape_of s.now) of.entry first.entry (texpr y.now) t n (second (texpr y.now) n))
-        (value_temps (texpr y.now) + 1 + left of.entry) (value_sizes (shape_of s.now) (texpr y.now))) }
+    requires room { HasRoom out.old (value_temps (texpr y.now) + ahead of + left of) (value_sizes (shape_of s.now) (texpr y.now)) }
+    ensures adds { OnOk result (Adds out.old out.new (λ n m. low_value (shape_of s.now) (texpr y.now) (second_at of.entry t n) (n + ahead of.entry) m
+        ▸ combined (shape_of s.now) of.entry first.entry (texpr y.now) t n (n + ahead of.entry + value_temps (texpr y.now)))
+        (value_temps (texpr y.now) + ahead of.entry + left of.entry) (value_sizes (shape_of s.now) (texpr y.now))) }
 {
-    let last = out.take(1);
-    operand(s, y, false, last, out)?;
-    combine(s, of, first, y, t, last, out)
+    let r = out.take(ahead(of));
+    operand(s, y, false, second_at(of, t, r), out)?;
+    combine(s, of, first, y, t, r, out)
 }
 
 /// The second operand of `&&` or `||`, which is run where the word in t asks for it.
@@ -241,46 +238,6 @@ fn choice(s: &Reading<'_>, y: &TExpr, and: bool, t: u32, out: &mut Output) -> Re
     let (inside, _) = keeping(inside, answer)?;
     out.take(2);
     choose_lazy(s.alloc, &mut out.nodes, and, tests_flag(y), t, inside)
-}
-
-/// The value that a place takes, or the second operand of a compound assignment to it and then the operator.
-#[cycle(lower)]
-fn assignment(
-    s: &Reading<'_>,
-    y: &TExpr,
-    op: Option<BinOp>,
-    place: First<'_>,
-    t: u32,
-    out: &mut Output,
-) -> Result<(), Memory>
-    requires room { HasRoom out.old (value_temps (texpr y.now) + 2) (value_sizes (shape_of s.now) (texpr y.now)) }
-    ensures adds { OnOk result (Adds out.old out.new (λ n m. low_value (shape_of s.now) (texpr y.now) (assigned_at op t n) (n + 2) m
-        ▸ assigned (shape_of s.now) op place.entry (texpr y.now) t n)
-        (value_temps (texpr y.now) + 2) (value_sizes (shape_of s.now) (texpr y.now))) }
-{
-    let r = out.take(2);
-    operand(s, y, false, assigned_at(op, t, r), out)?;
-    assign_by(s, &mut out.nodes, op, place, y, t, r)
-}
-
-/// A step of the cell to whose place an expression comes.
-#[cycle(lower)]
-fn step_of(s: &Reading<'_>, op: StepOp, x: &TExpr, t: u32, out: &mut Output) -> Result<(), Memory>
-    requires room { HasRoom out.old (temps (texpr x.now) + 2) (sizes (shape_of s.now) (texpr x.now)) }
-    ensures adds { OnOk result (Adds out.old out.new (step_taken (shape_of s.now) op (texpr x.now) (low (shape_of s.now) (texpr x.now)) t)
-        (temps (texpr x.now) + 2) (sizes (shape_of s.now) (texpr x.now))) }
-{
-    let place = out.take(2);
-    operand(s, x, true, place, out)?;
-    step(
-        s,
-        &mut out.nodes,
-        gives_old(op),
-        counts_up(op),
-        &x.ty,
-        t,
-        place,
-    )
 }
 
 /// A call of the function f.
@@ -321,8 +278,7 @@ fn args(
     for x in xs {
         let spot = out.take(1);
         places.push(spot)?;
-        operand(s, x, false, spot, out)?;
-        convert_first(&mut out.nodes, types, is_flag(x), spot)?;
+        operand_then(s, x, false, After::ConvertFirst(types), spot, spot, out)?;
         types = later(types);
     }
     Ok(())

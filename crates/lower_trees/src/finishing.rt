@@ -11,11 +11,11 @@ ghost use Rattle.lower_trees.specs.Expressions.{later_types, step_by, stepped_to
 ghost use Rattle.lower_trees.specs.inner.Adding.{Adds, AddsCode, HasRoom};
 ghost use Rattle.lower_trees.specs.inner.Enclosed.{lazy_choice};
 ghost use Rattle.lower_trees.specs.inner.MaybeTypes.{or_none};
-ghost use Rattle.lower_trees.specs.inner.Operands.{leaf, done, left, combined, assigned_at, assigned};
+ghost use Rattle.lower_trees.specs.inner.Operands.{leaf, done, behind, ahead, left, combined, assigned_at, assigned, second_at};
 ghost use Rattle.lower_trees.specs.View.{shape_of, tkind};
 
 use crate::cells::{alone, move_by, put, put_choice, read_structure, store};
-use crate::kinds::{is_flag, is_place, is_scalar};
+use crate::kinds::{counts_up, gives_old, is_flag, is_place, is_scalar};
 use crate::operands::{After, First, Operands, Second};
 use crate::operating::{convert, negate_as, operate, put_flag, step_by, step_one, test_as};
 use crate::output::{Nodes, Output};
@@ -188,7 +188,7 @@ fn step_to(
 
 /// The cell at the place in p goes one up or down; t takes the new cell, or the old one. The temporary behind p takes the difference, and then the
 /// new cell where t takes the old one.
-pub(crate) fn step(
+fn step(
     s: &Reading<'_>,
     nodes: &mut Nodes,
     old: bool,
@@ -237,13 +237,15 @@ fn member(
 
 /// What is done to an operand that came to `r`; it comes to `t`.
 pub(crate) fn finish(
+    s: &Reading<'_>,
     nodes: &mut Nodes,
     after: After<'_>,
     x: &TExpr,
     r: u32,
     t: u32,
 ) -> Result<(), Memory>
-    ensures { OnOk result (AddsCode nodes.old nodes.new (done after.entry (texpr x.now) r t)) }
+    requires next { behind after r ≤ 1000000 }
+    ensures nodes { OnOk result (AddsCode nodes.old nodes.new (done (shape_of s.now) after.entry (texpr x.now) r t)) }
 {
     match after {
         After::One(op) => put(nodes, Op::One(op, t, t)),
@@ -251,12 +253,14 @@ pub(crate) fn finish(
         After::Test => test_as(nodes, &x.ty, t),
         After::Negate => negate_as(nodes, &x.ty, t),
         After::Convert(ty) => convert(nodes, ty, is_flag(x), t),
+        After::ConvertFirst(types) => convert_first(nodes, types, is_flag(x), t),
+        After::Step(op) => step(s, nodes, gives_old(op), counts_up(op), &x.ty, t, r),
         After::Offset(offset) => move_by(nodes, t, r, offset),
         After::Member(ty, offset) => member(nodes, is_place(x), ty, t, r, offset),
     }
 }
 
-/// What is done to both operands, of which the second came to `r`.
+/// What is done to both operands, where `r` is the first temporary that the first has not.
 pub(crate) fn combine(
     s: &Reading<'_>,
     of: Second<'_>,
@@ -267,6 +271,7 @@ pub(crate) fn combine(
     out: &mut Output,
 ) -> Result<(), Memory>
     requires next { out.old.next + left of ≤ 1000000 }
+    requires own { r + ahead of ≤ 1000000 }
     ensures adds { OnOk result (Adds out.old out.new (λ n m. combined (shape_of s.now) of.entry first.entry (texpr y.now) t r n) (left of.entry) []) }
 {
     match of {
@@ -281,11 +286,12 @@ pub(crate) fn combine(
             operate(s, &mut out.nodes, op, first.ty, &y.ty, k)
         }
         Second::Element(ty) => step_on(s, ty, t, first.temporary, r, out),
+        Second::Assign(op) => assign_by(s, &mut out.nodes, op, first, y, t, r),
     }
 }
 
 /// Where the value comes to that is assigned: a compound assignment reads the old cell to `t`.
-pub(crate) fn assigned_at(op: Option<BinOp>, t: u32, r: u32) -> u32
+fn assigned_at(op: Option<BinOp>, t: u32, r: u32) -> u32
     ensures { result ≡ assigned_at op t r }
 {
     match op {
@@ -295,7 +301,7 @@ pub(crate) fn assigned_at(op: Option<BinOp>, t: u32, r: u32) -> u32
 }
 
 /// The value is stored at the place; a compound assignment operates on the cell first.
-pub(crate) fn assign_by(
+fn assign_by(
     s: &Reading<'_>,
     nodes: &mut Nodes,
     op: Option<BinOp>,
@@ -318,6 +324,28 @@ pub(crate) fn assign_by(
             };
             compound(s, nodes, op, place.ty, &y.ty, k, place.temporary)
         }
+    }
+}
+
+/// How many temporaries are taken before the second operand.
+pub(crate) fn ahead(of: Second<'_>) -> u32
+    ensures { result ≡ ahead of.entry }
+{
+    match of {
+        Second::Operate(_) => 1,
+        Second::Element(_) => 1,
+        Second::Assign(_) => 2,
+    }
+}
+
+/// Where the second operand comes to.
+pub(crate) fn second_at(of: Second<'_>, t: u32, r: u32) -> u32
+    ensures { result ≡ second_at of.entry t r }
+{
+    match of {
+        Second::Operate(_) => r,
+        Second::Element(_) => r,
+        Second::Assign(op) => assigned_at(op, t, r),
     }
 }
 
@@ -396,7 +424,7 @@ pub(crate) fn call(
 }
 
 /// The first of these types, where there is one, is what the value in t is converted to.
-pub(crate) fn convert_first(
+fn convert_first(
     nodes: &mut Nodes,
     types: Option<&[CType]>,
     known: bool,

@@ -1,6 +1,7 @@
 // Initialisers and variables, lowered.
-ghost use Rattle.std.specs.Prelude.{◌≡◌, ◌≤◌, ◌+◌, ◌-◌, map, OnOk};
-ghost use Rattle.c_types.specs.View.{ctype, tinit, tinits, tvar, or_void};
+ghost use Rattle.std.specs.Prelude.{◌≡◌, ◌≤◌, ◌+◌, ◌-◌, ◌++◌, length, map, OnOk};
+ghost use Rattle.c_types.specs.View.{ctype, texpr, tinit, tinits, tvar, or_void};
+ghost use Rattle.c_types.specs.Typed.{OneI};
 ghost use Rattle.lower_trees.specs.Counts.{init_temps, inits_temps, init_sizes, inits_sizes, vars_temps, vars_sizes, behind_address};
 ghost use Rattle.lower_trees.specs.Pieces.{◌▸◌};
 ghost use Rattle.lower_trees.specs.Parts.{converted};
@@ -15,7 +16,7 @@ use crate::kinds::is_flag;
 use crate::operating::convert;
 use crate::output::{Nodes, Output};
 use crate::reading::Reading;
-use c_types::{CType, TInit, TVar, is_structure};
+use c_types::{CType, TExpr, TInit, TVar, is_structure};
 use kit_base::Memory;
 use mid_code::Op;
 use std::alloc::Global;
@@ -160,6 +161,24 @@ struct Part<'x> {
     offset: u32,
 }
 
+/// Fills a part by the value of an expression.
+fn fill_by(s: &Reading<'_>, x: &TExpr, part: Part<'_>, out: &mut Output) -> Result<(), Memory>
+    requires room { HasRoom out.old (init_temps (OneI (texpr x.now))) (init_sizes (shape_of s.now) (OneI (texpr x.now))) }
+    ensures adds { OnOk result (Adds out.old out.new
+        (low_init (shape_of s.now) (OneI (texpr x.now)) (or_void part.entry.ty) part.entry.pointer part.entry.offset)
+        (init_temps (OneI (texpr x.now))) (init_sizes (shape_of s.now) (OneI (texpr x.now)))) }
+{
+    value(s, x, ITEM, out)?;
+    fill(
+        s,
+        &mut out.nodes,
+        part.ty,
+        is_flag(x),
+        part.pointer,
+        part.offset,
+    )
+}
+
 /// Fills a part by an initialiser.
 #[cycle(initialise)]
 #[tactic(auto, using(crate::proofs::Joins::length_both))]
@@ -175,17 +194,7 @@ fn initialise<'x>(
         (init_temps (tinit of.now)) (init_sizes (shape_of s.now) (tinit of.now))) }
 {
     match of {
-        TInit::One(x) => {
-            value(s, x, ITEM, out)?;
-            fill(
-                s,
-                &mut out.nodes,
-                part.ty,
-                is_flag(x),
-                part.pointer,
-                part.offset,
-            )
-        }
+        TInit::One(x) => fill_by(s, x, part, out),
         TInit::Text(number) => {
             let size = s.words_or(part.ty);
             fill_text(s, &mut out.nodes, *number, size, part.pointer, part.offset)
@@ -261,6 +270,27 @@ fn behind_address(of: &TInit, n: u32) -> u32
     }
 }
 
+/// Fills a variable.
+fn variable<'x>(s: &Reading<'x>, v: &'x TVar, out: &mut Output) -> Result<(), Memory>
+    requires next { behind_address (tinit v.now.init) out.old.next + init_temps (tinit v.now.init) ≤ 1000000 }
+    requires local { length out.old.locals.items + length (init_sizes (shape_of s.now) (tinit v.now.init)) ≤ 1000000 }
+    ensures nodes { OnOk result (AddsCode out.old.nodes out.new.nodes (object_to v.now.global v.now.object (address_of (tinit v.now.init) out.old.next)
+        ▸ low_init (shape_of s.now) (tinit v.now.init) (ctype v.now.ty) (address_of (tinit v.now.init) out.old.next) 0
+        (behind_address (tinit v.now.init) out.old.next) (length out.old.locals.items))) }
+    ensures locals { OnOk result (out.new.locals.items ≡ out.old.locals.items ++ init_sizes (shape_of s.now) (tinit v.now.init)) }
+    ensures next { OnOk result (out.new.next ≡ behind_address (tinit v.now.init) out.old.next + init_temps (tinit v.now.init)) }
+{
+    let p = address_of(&v.init, out.next);
+    object_to(&mut out.nodes, v.global, v.object, p)?;
+    out.next = behind_address(&v.init, out.next);
+    let whole = Part {
+        ty: Some(&v.ty),
+        pointer: p,
+        offset: 0,
+    };
+    initialise(s, &v.init, whole, out)
+}
+
 /// Fills variables.
 pub(crate) fn variables<'x>(s: &Reading<'x>, vs: &'x [TVar], out: &mut Output) -> Result<(), Memory>
     requires room { HasRoom out.old (vars_temps (map tvar vs.now)) (vars_sizes (shape_of s.now) (map tvar vs.now)) }
@@ -268,15 +298,7 @@ pub(crate) fn variables<'x>(s: &Reading<'x>, vs: &'x [TVar], out: &mut Output) -
         (vars_temps (map tvar vs.now)) (vars_sizes (shape_of s.now) (map tvar vs.now))) }
 {
     'variables: for v in vs {
-        let p = address_of(&v.init, out.next);
-        object_to(&mut out.nodes, v.global, v.object, p)?;
-        out.next = behind_address(&v.init, out.next);
-        let whole = Part {
-            ty: Some(&v.ty),
-            pointer: p,
-            offset: 0,
-        };
-        initialise(s, &v.init, whole, out)?;
+        variable(s, v, out)?;
     }
     Ok(())
 }

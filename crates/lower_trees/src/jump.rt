@@ -2,7 +2,7 @@
 use c_types::CType;
 
 /// Where `continue` goes to: the end of the k-th enclosing part, or its next turn.
-#[derive(Clone, Copy, Debug, PartialEq, Eq)]
+#[derive(Clone, Copy)]
 pub(crate) enum JumpTo {
     End(u32),
     Turn(u32),

@@ -1,5 +1,5 @@
 // What an expression is made of.
-use c_tree::BinOp;
+use c_tree::{BinOp, StepOp};
 use c_types::CType;
 use v32_isa::One;
 
@@ -20,7 +20,8 @@ pub(crate) struct First<'x> {
 }
 
 /// What is done to an only operand, once it is computed: an operation on its word, a write to a port, a test, a test that is turned around, a
-/// conversion to a type, a step by so many words, or a step to a member of this type.
+/// conversion to a type or to the first of some types, where there is one, a step of the cell at its place, a step by so many words, or a step to a
+/// member of this type.
 #[derive(Clone, Copy)]
 pub(crate) enum After<'x> {
     One(One),
@@ -28,13 +29,17 @@ pub(crate) enum After<'x> {
     Test,
     Negate,
     Convert(&'x CType),
+    ConvertFirst(Option<&'x [CType]>),
+    Step(StepOp),
     Offset(u32),
     Member(&'x CType, u32),
 }
 
-/// What is done to two operands, once they are computed: an operator, or a step to an element of a type.
+/// What is done to two operands, once they are computed: an operator, a step to an element of a type, or an assignment of the second to the place of
+/// the first, which may operate on both.
 #[derive(Clone, Copy)]
 pub(crate) enum Second<'x> {
     Operate(BinOp),
     Element(&'x CType),
+    Assign(Option<BinOp>),
 }

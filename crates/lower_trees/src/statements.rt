@@ -1,5 +1,4 @@
 // Statements, lowered.
-#![tactic(auto, using(crate::proofs::Joins::length_both))]
 
 ghost use Rattle.std.specs.Prelude.{◌≡◌, ◌≤◌, ◌+◌, length, map, IfOk, OnOk};
 ghost use Rattle.c_types.specs.Typed.{BlockZ, WhileZ, DoWhileZ};

@@ -17,7 +17,8 @@ use Rattle.lower_trees.specs.Flags.{is_flag}
 use Rattle.lower_trees.specs.Counts.{temps, value_temps, size_temps, sizes, value_sizes}
 use Rattle.lower_trees.specs.Pieces.{Piece, NothingP, ◌▸◌, DoP}
 use Rattle.lower_trees.specs.Parts.{moved_by, converted, stored, stepped, operated, tested_as, negated_as}
-use Rattle.lower_trees.specs.Expressions.{Low, low, low_value, member_of}
+use Rattle.lower_trees.specs.Expressions.{Low, low, low_value, member_of, step_by, gives_old, counts_up, converted_to}
+use Rattle.lower_trees.specs.inner.MaybeTypes.{or_none}
 
 -- an expression without operands
 abbrev pub leaf : TKindT → (t : ℕ) → Piece
@@ -46,24 +47,32 @@ operand_sizes h true x = sizes h x
 operand_sizes h false x = value_sizes h x
 
 -- what is done to an operand that came to r
-abbrev pub done : After → TExprT → (r t : ℕ) → Piece
-done (after.One op) x r t = DoP (o.One op t t)
-done (after.Out port) x r t = DoP (o.Out port t)
-done after.Test x r t = tested_as (decayed (type_of x)) t
-done after.Negate x r t = negated_as (decayed (type_of x)) t
-done (after.Convert ty) x r t = converted (ctype ty.now) (is_flag x) t
-done (after.Offset offset) x r t = moved_by t r offset
-done (after.Member ty offset) x r t = moved_by t r offset ▸ member_of (is_place x) (ctype ty.now) t
+abbrev pub done : Shape → After → TExprT → (r t : ℕ) → Piece
+done h (after.One op) x r t = DoP (o.One op t t)
+done h (after.Out port) x r t = DoP (o.Out port t)
+done h after.Test x r t = tested_as (decayed (type_of x)) t
+done h after.Negate x r t = negated_as (decayed (type_of x)) t
+done h (after.Convert ty) x r t = converted (ctype ty.now) (is_flag x) t
+done h (after.ConvertFirst types) x r t = converted_to (or_none types) (is_flag x) t
+done h (after.Step op) x r t = step_by h (gives_old op) (counts_up op) (type_of x) t r
+done h (after.Offset offset) x r t = moved_by t r offset
+done h (after.Member ty offset) x r t = moved_by t r offset ▸ member_of (is_place x) (ctype ty.now) t
 
--- how many temporaries are taken behind the second operand of an operator or an element
+-- the last temporary that is used behind an operand that came to r
+abbrev pub behind : After → (r : ℕ) → ℕ
+behind (after.Step op) r = r + 1
+behind _ r = 0
+
+-- how many temporaries are taken before the second operand, and behind it
+abbrev pub ahead : Second → ℕ
+ahead (by.Operate op) = 1
+ahead (by.Element ty) = 1
+ahead (by.Assign op) = 2
+
 abbrev pub left : Second → ℕ
 left (by.Operate op) = 1
 left (by.Element ty) = size_temps (ctype ty.now)
-
--- what is done to both operands, of which the second came to r; n is the first temporary that neither has
-abbrev pub combined : Shape → Second → First → TExprT → (t r n : ℕ) → Piece
-combined h (by.Operate op) f y t r n = operated h op (ctype f.ty.now) (type_of y) t f.temporary r n
-combined h (by.Element ty) f y t r n = stepped (words h (ctype ty.now)) t f.temporary r n
+left (by.Assign op) = 0
 
 -- where the value that is assigned comes to, and what is done with it, where r is the first of two temporaries before its own
 abbrev pub assigned_at : Option BinOp → (t r : ℕ) → ℕ
@@ -74,3 +83,15 @@ abbrev pub assigned : Shape → Option BinOp → First → TExprT → (t r : ℕ
 assigned h None f y t r = converted (ctype f.ty.now) (is_flag y) t ▸ stored h (ctype f.ty.now) f.temporary t
 assigned h (Some op) f y t r =
     DoP (o.Load t f.temporary) ▸ operated h op (ctype f.ty.now) (type_of y) t t r (r + 1) ▸ converted (ctype f.ty.now) false t ▸ DoP (o.Store f.temporary t)
+
+-- where the second operand comes to, where r is the first temporary that the first has not
+abbrev pub second_at : Second → (t r : ℕ) → ℕ
+second_at (by.Operate op) t r = r
+second_at (by.Element ty) t r = r
+second_at (by.Assign op) t r = assigned_at op t r
+
+-- what is done to both operands, where r is the first temporary that the first has not; n is the first that neither has
+abbrev pub combined : Shape → Second → First → TExprT → (t r n : ℕ) → Piece
+combined h (by.Operate op) f y t r n = operated h op (ctype f.ty.now) (type_of y) t f.temporary r n
+combined h (by.Element ty) f y t r n = stepped (words h (ctype ty.now)) t f.temporary r n
+combined h (by.Assign op) f y t r n = assigned h op f y t r

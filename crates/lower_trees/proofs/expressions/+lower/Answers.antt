@@ -38,7 +38,7 @@ kind-returns-in_ok-place-in-Assign t c =
     let y = texpr c.deref-in-Assign-2.result.now in
     let e : k ≡ AssignK c.in-Assign.op x y = search (rules, the_lemmas) in
     let is = c.in_ok-place-in-Assign.ensures in
-    record { adds = on_ok c.assignment.result (assignment_adds (shape_of c.args.s.now) k c.in-Assign.op x y c.in_ok-place-in-Assign.place (ctype c.args.ty.now) c.args.t c.args.out.now c.first_operand-in-Assign.new.out c.assignment.new.out e is.ty is.temporary is.adds) c.assignment.ensures.adds }
+    record { adds = on_ok c.second_operand-in-Assign.result (assignment_adds (shape_of c.args.s.now) k c.in-Assign.op x y c.in_ok-place-in-Assign.place (ctype c.args.ty.now) c.args.t c.args.out.now c.first_operand-in-Assign.new.out c.second_operand-in-Assign.new.out e is.ty is.temporary is.adds) c.second_operand-in-Assign.ensures.adds }
 
 pub kind-returns-in_ok-first-in-Index : goal.kind-returns-in_ok-first-in-Index
 kind-returns-in_ok-first-in-Index t c =
@@ -55,7 +55,7 @@ kind-returns-in-Member t c =
     let k = tkind c.args.of.now in
     let x = texpr c.deref-in-Member.result.now in
     let e : k ≡ MemberK x c.in-Member.offset = search (rules, the_lemmas) in
-    record { adds = on_ok c.operand_then-in-Member.result (member_adds (shape_of c.args.s.now) k x c.in-Member.offset (ctype c.args.ty.now) c.args.t c.take-place.result c.args.out.now c.take-place.new.self c.operand_then-in-Member.new.out e c.take-place.ensures.first c.take-place.ensures.taken) c.operand_then-in-Member.ensures.adds }
+    record { adds = on_ok c.operand_then-in-Member.result (member_adds (shape_of c.args.s.now) k x c.in-Member.offset (ctype c.args.ty.now) c.args.t c.take-place-in-Member.result c.args.out.now c.take-place-in-Member.new.self c.operand_then-in-Member.new.out e c.take-place-in-Member.ensures.first c.take-place-in-Member.ensures.taken) c.operand_then-in-Member.ensures.adds }
 
 pub kind-returns-in-Unary : goal.kind-returns-in-Unary
 kind-returns-in-Unary t c =

@@ -26,22 +26,22 @@ use Rattle.mid_scalars.proofs.Working.{put_off, put_on, own_variable, variable_s
 
 -- ---- the object of a promoted local
 
-plain_read : (o : ObjectT) → o.lives ≡ true → o.kind ≡ Local → length o.cells ≡ 1 → read_refused o 0 ≡ None
+pub plain_read : (o : ObjectT) → o.lives ≡ true → o.kind ≡ Local → length o.cells ≡ 1 → read_refused o 0 ≡ None
 plain_read o a b c =
     ap (λ l. cond l (cond (is_missing_card o.kind o.cells) (Some NoCard) (cond (ltb 0 (length o.cells)) None (Some Outside))) (Some Dead)) a
     ∙ ap (λ k. cond (is_missing_card k o.cells) (Some NoCard) (cond (ltb 0 (length o.cells)) None (Some Outside))) b
     ∙ ap (λ n. cond (ltb 0 n) None (Some Outside)) c
 
-dead_read : (o : ObjectT) (i : ℕ) → o.lives ≡ false → read_refused o i ≡ Some Dead
+pub dead_read : (o : ObjectT) (i : ℕ) → o.lives ≡ false → read_refused o i ≡ Some Dead
 dead_read o i a = ap (λ l. cond l (cond (is_missing_card o.kind o.cells) (Some NoCard) (cond (ltb i (length o.cells)) None (Some Outside))) (Some Dead)) a
 
-plain_write : (o : ObjectT) → o.lives ≡ true → o.kind ≡ Local → length o.cells ≡ 1 → write_refused o 0 ≡ None
+pub plain_write : (o : ObjectT) → o.lives ≡ true → o.kind ≡ Local → length o.cells ≡ 1 → write_refused o 0 ≡ None
 plain_write o a b c = ap (also_writable o.kind) (plain_read o a b c) ∙ ap (λ k. cond (is_literal k) (Some ReadOnly) None) b
 
-dead_write : (o : ObjectT) (i : ℕ) → o.lives ≡ false → write_refused o i ≡ Some Dead
+pub dead_write : (o : ObjectT) (i : ℕ) → o.lives ≡ false → write_refused o i ≡ Some Dead
 dead_write o i a = ap (also_writable o.kind) (dead_read o i a)
 
-lives_written : (o : ObjectT) (i : ℕ) → write_refused o i ≡ None → o.lives ≡ true
+pub lives_written : (o : ObjectT) (i : ℕ) → write_refused o i ≡ None → o.lives ≡ true
 lives_written o i e = go o.lives refl
   where
     no : Some Dead ≡ None → ⊥

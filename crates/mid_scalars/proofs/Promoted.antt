@@ -22,7 +22,7 @@ use Rattle.mid_scalars.proofs.Each.{each}
 
 -- ---- arguments
 
-received_known : (N : ℕ → ℕ → Type 0) (ps : List ℕ) (cs ds : List Cell) (q : ℕ) → AllKnown N cs ds → Known N (received temporaries ps cs q) (received temporaries ps ds q)
+pub received_known : (N : ℕ → ℕ → Type 0) (ps : List ℕ) (cs ds : List Cell) (q : ℕ) → AllKnown N cs ds → Known N (received temporaries ps cs q) (received temporaries ps ds q)
 received_known N [] cs ds q h = tt
 received_known N (p ∷ ps) [] ds q h = tt
 received_known N (p ∷ ps) (c ∷ cs) [] q h = absurd h
@@ -38,16 +38,16 @@ none_received (p ∷ ps) (c ∷ cs) q e = go (none_received ps cs q) (eqb p q) (
     go r false true f g h = absurd (true_false (sym (eq-eqb p q (sym (eqb-true q p g))) ∙ f))
     go r false false f g h = ap (λ w. cond w c (received temporaries ps cs q)) g ∙ r h
 
-no_local : (n k : ℕ) → local_object (replicate n None) k ≡ None
+pub no_local : (n k : ℕ) → local_object (replicate n None) k ≡ None
 no_local zero k = refl
 no_local (suc n) zero = refl
 no_local (suc n) (suc k) = no_local n k
 
-none_count : (n : ℕ) → length (replicate {A = Option ℕ} n None) ≡ n
+pub none_count : (n : ℕ) → length (replicate {A = Option ℕ} n None) ≡ n
 none_count zero = refl
 none_count (suc n) = ap suc (none_count n)
 
-none_some : (o : ℕ) → None ≡ Some o → ⊥
+pub none_some : (o : ℕ) → None ≡ Some o → ⊥
 none_some o e = cc
 
 module _ (X : Plan) (x y : CodeT ℕ) (frames : List ℕ) (F : Fits X x y frames) where

@@ -19,7 +19,7 @@ use Rattle.mid_scalars.proofs.Promoted.{keeps, like}
 
 -- ---- where a run begins: all objects are there under their own numbers
 
-abbrev ids : ℕ → ℕ → List Name
+abbrev pub ids : ℕ → ℕ → List Name
 ids i zero = []
 ids i (suc n) = Here i ∷ ids (suc i) n
 
@@ -115,32 +115,37 @@ opening_length globals literals card =
     let d = map_length literal_object literals in
     omega (arith, a, b, c, d)
 
-module _ (X : Plan) (x y : CodeT ℕ) (frames : List ℕ) (P : IsPromotion X x y frames) where
-  abbrev F : Fits X x y frames
-  F = P.fits
+module _ (x : CodeT ℕ) where
+  abbrev pub objects_opened : ℕ
+  objects_opened = suc (length x.globals + length x.literals)
 
-  abbrev opened : ℕ
-  opened = suc (length x.globals + length x.literals)
-
-  abbrev κ0 : Begun
-  κ0 = record { fn = None; names = ids 0 opened; objects = []; base = opened }
+  -- what the start begins with
+  abbrev pub start_begun : Begun
+  start_begun = record { fn = None; names = ids 0 objects_opened; objects = []; base = objects_opened }
 
   abbrev os : Option (List ℕ) → List ObjectT
   os card = opening_objects x.globals x.literals card
 
-  opens : (card : Option (List ℕ)) → Core opened κ0 (ids 0 opened) (os card) (os card)
+  pub opens : (card : Option (List ℕ)) → Core objects_opened start_begun (ids 0 objects_opened) (os card) (os card)
   opens card = record {
-    later = later_self (ids 0 opened) opened;
+    later = later_self (ids 0 objects_opened) objects_opened;
     base_in = let e = opening_length x.globals x.literals card in omega (arith, e);
     mem = record {
-      long = ids_length 0 opened ∙ sym (opening_length x.globals x.literals card);
-      below = λ o p h. let e = ids_is 0 opened o p h in let f = opening_length x.globals x.literals card in omega (arith, e.0, e.1, f);
-      one = λ o q p h g. let a = ids_is 0 opened o p h in let b = ids_is 0 opened q p g in omega (arith, a.0, b.0);
-      twin = λ o p h. let e : p ≡ o = omega (arith, (ids_is 0 opened o p h).0) in subst (λ w. Twin (IsHere (ids 0 opened)) (object_at (os card) o) (object_at (os card) w)) (sym e) (record { kind = refl; lives = refl; long = refl; cells = λ i. known_self (IsHere (ids 0 opened)) (cell_at (object_at (os card) o) i) (clean_at (os card) (clean_opening x.globals x.literals card) o i) });
+      long = ids_length 0 objects_opened ∙ sym (opening_length x.globals x.literals card);
+      below = λ o p h. let e = ids_is 0 objects_opened o p h in let f = opening_length x.globals x.literals card in omega (arith, e.0, e.1, f);
+      one = λ o q p h g. let a = ids_is 0 objects_opened o p h in let b = ids_is 0 objects_opened q p g in omega (arith, a.0, b.0);
+      twin = λ o p h. let e : p ≡ o = omega (arith, (ids_is 0 objects_opened o p h).0) in subst (λ w. Twin (IsHere (ids 0 objects_opened)) (object_at (os card) o) (object_at (os card) w)) (sym e) (record { kind = refl; lives = refl; long = refl; cells = λ i. known_self (IsHere (ids 0 objects_opened)) (cell_at (object_at (os card) o) i) (clean_at (os card) (clean_opening x.globals x.literals card) o i) });
     };
-    frozen = λ o k h. absurd (ids_away 0 opened o k h);
-    fixed = λ o lt. ids_at 0 opened o lt ∙ ap Here (omega arith);
+    frozen = λ o k h. absurd (ids_away 0 objects_opened o k h);
+    fixed = λ o lt. ids_at 0 objects_opened o lt ∙ ap Here (omega arith);
   }
+
+module _ (X : Plan) (x y : CodeT ℕ) (frames : List ℕ) (P : IsPromotion X x y frames) where
+  abbrev F : Fits X x y frames
+  F = P.fits
+
+  abbrev κ0 : Begun
+  κ0 = start_begun x
 
   none_promoted : (k : ℕ) → X.promoted None k ≡ true → ⊥
   none_promoted k e = let h = F.in_range None k e in omega (arith, h)
@@ -151,8 +156,8 @@ module _ (X : Plan) (x y : CodeT ℕ) (frames : List ℕ) (P : IsPromotion X x y
   -- the states at the opening, where the second has the globals and literals of the first
   alike : (answers : List ℕ) (card : Option (List ℕ)) → Alive X x y frames κ0 (opening x answers card) (opening x answers card)
   alike answers card = record {
-    names = ids 0 opened;
-    core = opens card;
+    names = ids 0 (objects_opened x);
+    core = opens x card;
     answers = refl;
     events = refl;
     work = omega arith;

@@ -36,12 +36,12 @@ put_off f t c q n = ap (λ b. cond b c (f q)) (off q t n)
 pub put_on : (f : ℕ → Cell) (t : ℕ) (c : Cell) → put temporaries f t c t ≡ c
 put_on f t c = ap (λ b. cond b c (f t)) (eq-eqb t t refl)
 
-local_on : (l : List (Option ℕ)) (k n : ℕ) → k < length l → local_object (set l k (Some n)) k ≡ Some n
+pub local_on : (l : List (Option ℕ)) (k n : ℕ) → k < length l → local_object (set l k (Some n)) k ≡ Some n
 local_on [] k n lt = absurd (omega (arith, lt))
 local_on (x ∷ l) zero n lt = refl
 local_on (x ∷ l) (suc k) n lt = local_on l k n (omega (arith, lt))
 
-local_off : (l : List (Option ℕ)) (k n j : ℕ) → (j ≡ k → ⊥) → local_object (set l k (Some n)) j ≡ local_object l j
+pub local_off : (l : List (Option ℕ)) (k n j : ℕ) → (j ≡ k → ⊥) → local_object (set l k (Some n)) j ≡ local_object l j
 local_off [] k n j h = refl
 local_off (x ∷ l) zero n zero h = absurd (h refl)
 local_off (x ∷ l) zero n (suc j) h = refl
@@ -74,20 +74,20 @@ pub then_on : (d : Did (State ℕ)) → then_act d (λ s. On s) ≡ d
 then_on (On s) = refl
 then_on (Ends f s) = refl
 
-cell_unwritten : (n i : ℕ) → get_or (replicate n Unwritten) i Unwritten ≡ Unwritten
+pub cell_unwritten : (n i : ℕ) → get_or (replicate n Unwritten) i Unwritten ≡ Unwritten
 cell_unwritten zero i = refl
 cell_unwritten (suc n) zero = refl
 cell_unwritten (suc n) (suc i) = cell_unwritten n i
 
-twin_made : (N : ℕ → ℕ → Type 0) (a b : ℕ) → b ≡ a → Twin N (object Local (unwritten a)) (object Local (unwritten b))
+pub twin_made : (N : ℕ → ℕ → Type 0) (a b : ℕ) → b ≡ a → Twin N (object Local (unwritten a)) (object Local (unwritten b))
 twin_made N a b e = subst (λ z. Twin N (object Local (unwritten a)) (object Local (unwritten z))) (sym e) (record { kind = refl; lives = refl; long = refl; cells = λ i. subst (λ c. Known N c (get_or (replicate a Unwritten) i Unwritten)) (sym (cell_unwritten a i)) tt })
 
-local_more : (ns ms : List Name) (l m : Option ℕ) → LocalKnown ns l m → LocalKnown (ns ++ ms) l m
+pub local_more : (ns ms : List Name) (l m : Option ℕ) → LocalKnown ns l m → LocalKnown (ns ++ ms) l m
 local_more ns ms None m h = h
 local_more ns ms (Some o) m h = (h.0, here_more ns ms o h.0 h.1, h.2)
 
 -- a local is made: an object behind the others, with this number
-abbrev with_made : ObjectT → (k n : ℕ) → Store → Store
+abbrev pub with_made : ObjectT → (k n : ℕ) → Store → Store
 with_made x k n st = record st { objects = st.objects ++ x ∷ []; locals = set st.locals k (Some n) }
 
 module _ (X : Plan) (x y : CodeT ℕ) (frames : List ℕ) (F : Fits X x y frames) where

@@ -1,0 +1,17 @@
+pub mod Spare
+pub mod Working
+pub mod Each
+pub mod Calling
+pub mod Lists
+pub mod Whole
+pub mod Tables
+pub mod Noting
+pub mod Turning
+pub mod Asks
+pub mod Walking
+pub mod Pairs
+pub mod Paired
+pub mod Planning
+pub mod Kept
+pub mod Made
+pub mod OneByOne

@@ -1,0 +1,2 @@
+pub mod ReplacedFrom
+pub mod inner

@@ -9,7 +9,7 @@ use Rattle.mid_code.specs.declared.node.Op.TheVariants as o
 use Rattle.lower_trees.specs.Shape.{Shape, words, literal_words}
 use Rattle.lower_trees.specs.Flags.{is_flag}
 use Rattle.lower_trees.specs.Pieces.{Piece, NothingP, ◌▸◌, EitherP, DoP}
-use Rattle.lower_trees.specs.Parts.{from, to, item, object, copied, zeroed, moved_by, converted}
+use Rattle.lower_trees.specs.Parts.{from, to, item, object, copied, copied_on, zeroed, moved_by, converted}
 use Rattle.lower_trees.specs.Counts.{init_temps, init_sizes, behind_address}
 use Rattle.lower_trees.specs.Expressions.{low_value}
 
@@ -24,7 +24,7 @@ cell_filled p zero = DoP (o.Store p item)
 cell_filled p (suc offset) = moved_by to p (suc offset) ▸ DoP (o.Store to item)
 
 abbrev pub part_filled : Shape → Ty → (p offset : ℕ) → Piece
-part_filled h ty p offset = EitherP (is_structure ty) (DoP (o.Move from item) ▸ part_at p offset ▸ copied (words h ty)) (cell_filled p offset)
+part_filled h ty p offset = EitherP (is_structure ty) (part_at p offset ▸ copied_on (words h ty) item) (cell_filled p offset)
 
 -- so many cells of the part are set to 0
 abbrev pub part_zeroed : (p offset size : ℕ) → Piece

@@ -8,7 +8,7 @@ use Rattle.mid_code.specs.declared.node.Op.TheVariants as o
 use Rattle.mid_code.specs.Code.{Stop, FunctionT, CodeT}
 use Rattle.lower_trees.specs.Shape.{Shape, shape, words}
 use Rattle.lower_trees.specs.Pieces.{Piece, NothingP, ◌▸◌, EitherP, DoP, BlockP, coded}
-use Rattle.lower_trees.specs.Parts.{from, to, result_at, param_at, first_param, copied, made}
+use Rattle.lower_trees.specs.Parts.{to, result_at, param_at, first_param, copied_on, made}
 use Rattle.lower_trees.specs.Counts.{stmts_temps, stmts_sizes}
 use Rattle.lower_trees.specs.Statements.{ToEnd, low_stmts}
 
@@ -24,7 +24,7 @@ with_result ty ps = if is_structure ty then result_at ∷ ps else ps
 -- the parameter of that number, whose type this is, takes what came to the temporary
 abbrev pub received : Shape → Ty → (number a : ℕ) → Piece
 received h ty k a =
-    EitherP (is_structure ty) (DoP (o.Move from a) ▸ DoP (o.Local to k) ▸ copied (words h ty))
+    EitherP (is_structure ty) (DoP (o.Local to k) ▸ copied_on (words h ty) a)
     (DoP (o.Local (param_at k) k) ▸ DoP (o.Store (param_at k) a))
 
 abbrev pub all_received : Shape → List Ty → (number a : ℕ) → Piece

@@ -72,15 +72,61 @@ abbrev pub zeroed : (size : ℕ) → Piece
 zeroed zero = NothingP
 zeroed (suc left) = DoP (o.Const count (suc left)) ▸ DoP (o.Const one 1) ▸ DoP (o.Const cell 0) ▸ LoopP zero_turn
 
+-- A further turn is asked for, as by the loop: where the bound is 0 that is out of bound.
+abbrev pub ask_turn : Piece
+ask_turn = ChooseP count (DoP (o.Const count 0) ▸ AgainP 0) NothingP
+
+abbrev pub asked : Piece
+asked = DoP (o.Const count 1) ▸ LoopP ask_turn
+
+-- ---- copies: one word and two by straight code, more by the loop
+
+-- the word at the place in p is copied to the place in q
+abbrev pub word_copied : (p q : ℕ) → Piece
+word_copied p q = DoP (o.Load cell p) ▸ DoP (o.Store q cell)
+
+-- The second word is that of a further turn.
+abbrev pub pair_copied : (p q : ℕ) → Piece
+pair_copied p q =
+    word_copied p q ▸ asked ▸ DoP (o.Const one 1) ▸ DoP (o.Step from p one) ▸ DoP (o.Load cell from) ▸ DoP (o.Step to q one) ▸ DoP (o.Store to cell)
+
+-- by so many words: what is done for none, one, two and more
+abbrev pub by_size : (size : ℕ) → (a b c d : Piece) → Piece
+by_size zero a b c d = a
+by_size (suc zero) a b c d = b
+by_size (suc (suc zero)) a b c d = c
+by_size (suc (suc (suc left))) a b c d = d
+
+abbrev pub copied_between : (size p q : ℕ) → Piece
+copied_between size p q = by_size size NothingP (word_copied p q) (pair_copied p q) (DoP (o.Move from p) ▸ DoP (o.Move to q) ▸ copied size)
+
+-- to the place in `to`
+abbrev pub copied_on : (size p : ℕ) → Piece
+copied_on size p = by_size size NothingP (word_copied p to) (pair_copied p to) (DoP (o.Move from p) ▸ copied size)
+
 -- ---- places and values
 
 -- a pointer so many words behind that in p comes to t
 abbrev pub moved_by : (t p offset : ℕ) → Piece
 moved_by t p offset = DoP (o.Const t offset) ▸ DoP (o.Step t p t)
 
--- the structure at the place in t is copied to a local, and a pointer to that comes to t
+-- The word at the place in t is copied to a local, and a pointer to that comes to t.
+abbrev pub word_read : (local t : ℕ) → Piece
+word_read k t = DoP (o.Load cell t) ▸ DoP (o.Local t k) ▸ DoP (o.Store t cell)
+
+-- Of two words the place of the second is known before t leaves that of the first.
+abbrev pub pair_read : (local t : ℕ) → Piece
+pair_read k t =
+    DoP (o.Load cell t) ▸ DoP (o.Const one 1) ▸ DoP (o.Step from t one) ▸ DoP (o.Local t k) ▸ DoP (o.Store t cell)
+    ▸ asked ▸ DoP (o.Load cell from) ▸ DoP (o.Step to t one) ▸ DoP (o.Store to cell)
+
+abbrev pub local_filled : (size local t : ℕ) → Piece
+local_filled size k t =
+    by_size size (DoP (o.Local t k)) (word_read k t) (pair_read k t) (DoP (o.Move from t) ▸ DoP (o.Local to k) ▸ copied size ▸ DoP (o.Local t k))
+
+-- the structure at the place in t is copied to a local that is made for it, and a pointer to that comes to t
 abbrev pub structure_read : (size local t : ℕ) → Piece
-structure_read size k t = DoP (o.Fresh k) ▸ DoP (o.Move from t) ▸ DoP (o.Local to k) ▸ copied size ▸ DoP (o.Local t k)
+structure_read size k t = DoP (o.Fresh k) ▸ local_filled size k t
 
 -- To bool a word becomes 1 unless it is 0; not where it is known to be a flag.
 abbrev pub as_flag : (known : Bool) → (t : ℕ) → Piece
@@ -93,7 +139,7 @@ converted ty known t = NothingP
 
 -- the value in a is stored at the place in p
 abbrev pub stored : Shape → Ty → (p a : ℕ) → Piece
-stored h ty p a = EitherP (is_structure ty) (DoP (o.Move from a) ▸ DoP (o.Move to p) ▸ copied (words h ty)) (DoP (o.Store p a))
+stored h ty p a = EitherP (is_structure ty) (copied_between (words h ty) a p) (DoP (o.Store p a))
 
 -- ---- operators: t takes what they come to, a and b are the operands, and b is used up; t may be a
 

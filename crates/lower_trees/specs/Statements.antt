@@ -9,7 +9,7 @@ use Rattle.mid_code.specs.declared.node.Op.TheVariants as o
 use Rattle.lower_trees.specs.Shape.{Shape, words}
 use Rattle.lower_trees.specs.Flags.{is_flag}
 use Rattle.lower_trees.specs.Pieces.{Piece, NothingP, ◌▸◌, EitherP, DoP, ChooseP, BlockP, LoopP, LeaveP, AgainP, ReturnP}
-use Rattle.lower_trees.specs.Parts.{one, from, to, other, result_at, copied, converted, made}
+use Rattle.lower_trees.specs.Parts.{one, other, result_at, copied_between, converted, made}
 use Rattle.lower_trees.specs.Counts.{maybe_temps, stmt_temps, other_temps, maybe_sizes, stmt_sizes, other_sizes}
 use Rattle.lower_trees.specs.Expressions.{second, beyond, low_value, low_test}
 use Rattle.lower_trees.specs.Initialisers.{low_vars}
@@ -84,7 +84,7 @@ low_label t a = ChooseP t (DoP (o.Two ISUB t t one)) a
 -- ---- returning
 
 abbrev pub returned : Shape → Ty → (t : ℕ) → Piece
-returned h ty t = EitherP (is_structure ty) (DoP (o.Move from t) ▸ DoP (o.Move to result_at) ▸ copied (words h ty) ▸ ReturnP None) (ReturnP (Some t))
+returned h ty t = EitherP (is_structure ty) (copied_between (words h ty) t result_at ▸ ReturnP None) (ReturnP (Some t))
 
 -- ---- all forms: a `break` leaves the b-th enclosing part; ty is the type of the function's result
 

@@ -1,9 +1,10 @@
-// Nodes that are added, and loops over cells.
+// Nodes that are added, and copies of cells.
 ghost use Rattle.std.specs.Prelude.{◌≡◌, ◌==◌, ◌++◌, ◌∷◌, [], false, map, IfOk, OnOk};
 ghost use Rattle.mid_code.specs.Functions.{DoN, ChooseN, LoopN, listed, node};
 ghost use Rattle.lower_trees.specs.Pieces.{◌▸◌, DoP, LoopP, AgainP};
 ghost use Rattle.lower_trees.specs.inner.Adding.{AddsCode};
 ghost use Rattle.lower_trees.specs.Parts.{count, one, cell, from, to, copy_turn, zero_turn, copied, moved_by, structure_read, stored, made};
+ghost use Rattle.lower_trees.specs.Parts.{ask_turn, asked, word_copied, pair_copied, copied_between, copied_on, word_read, pair_read, local_filled};
 ghost use Rattle.c_types.specs.View.{ctype};
 ghost use Rattle.lower_trees.specs.View.{shape_of};
 
@@ -184,7 +185,192 @@ pub(crate) fn move_by(nodes: &mut Nodes, t: u32, p: u32, offset: u32) -> Result<
     put(nodes, Op::Step(t, p, t))
 }
 
+/// No cell is left in the next turn.
+fn go_on_once(nodes: &mut Nodes) -> Result<(), Memory>
+    ensures { OnOk result (AddsCode nodes.old nodes.new (DoP (Op.Const count 0) ▸ AgainP 0)) }
+{
+    put(nodes, Op::Const(COUNT, 0))?;
+    add(nodes, Node::Again(0))
+}
+
+/// One turn, which asks for the next where a cell is left.
+fn ask_turn(alloc: Global, nodes: &mut Nodes) -> Result<(), Memory>
+    ensures { OnOk result (AddsCode nodes.old nodes.new ask_turn) }
+{
+    let mut further = Vec::new(alloc);
+    let answer = go_on_once(&mut further);
+    let (further, _) = keeping(further, answer)?;
+    put_choice(nodes, COUNT, further, Vec::new(alloc))
+}
+
+/// Asks for one more turn, in which nothing is done.
+fn ask(alloc: Global, nodes: &mut Nodes) -> Result<(), Memory>
+    ensures { OnOk result (AddsCode nodes.old nodes.new asked) }
+{
+    put(nodes, Op::Const(COUNT, 1))?;
+    let mut turn = Vec::new(alloc);
+    let answer = ask_turn(alloc, &mut turn);
+    let (turn, _) = keeping(turn, answer)?;
+    put_loop(nodes, turn)
+}
+
+/// Copies the cell at the place in `p` to the place in `q`.
+fn copy_word(nodes: &mut Nodes, p: u32, q: u32) -> Result<(), Memory>
+    ensures { OnOk result (AddsCode nodes.old nodes.new (word_copied p q)) }
+{
+    put(nodes, Op::Load(CELL, p))?;
+    put(nodes, Op::Store(q, CELL))
+}
+
+/// Copies the second of two cells, whose place is known, behind the place in `q`.
+fn copy_second(nodes: &mut Nodes, q: u32) -> Result<(), Memory>
+    ensures { OnOk result (AddsCode nodes.old nodes.new (DoP (Op.Load cell from) ▸ DoP (Op.Step to q one) ▸ DoP (Op.Store to cell))) }
+{
+    put(nodes, Op::Load(CELL, FROM))?;
+    put(nodes, Op::Step(TO, q, ONE))?;
+    put(nodes, Op::Store(TO, CELL))
+}
+
+/// Makes a pointer to the second of two cells, behind the place in `p`.
+fn point_second(nodes: &mut Nodes, p: u32) -> Result<(), Memory>
+    ensures { OnOk result (AddsCode nodes.old nodes.new (DoP (Op.Const one 1) ▸ DoP (Op.Step from p one))) }
+{
+    put(nodes, Op::Const(ONE, 1))?;
+    put(nodes, Op::Step(FROM, p, ONE))
+}
+
+/// Copies the two cells at the place in `p` to the place in `q`.
+fn copy_pair(alloc: Global, nodes: &mut Nodes, p: u32, q: u32) -> Result<(), Memory>
+    ensures { OnOk result (AddsCode nodes.old nodes.new (pair_copied p q)) }
+{
+    copy_word(nodes, p, q)?;
+    ask(alloc, nodes)?;
+    point_second(nodes, p)?;
+    copy_second(nodes, q)
+}
+
+/// Copies cells from the place in `p` to the place in `q`, by the loop.
+fn copy_far(alloc: Global, nodes: &mut Nodes, size: u32, p: u32, q: u32) -> Result<(), Memory>
+    ensures { OnOk result (AddsCode nodes.old nodes.new (DoP (Op.Move from p) ▸ DoP (Op.Move to q) ▸ copied size)) }
+{
+    put(nodes, Op::Move(FROM, p))?;
+    put(nodes, Op::Move(TO, q))?;
+    copy_cells(alloc, nodes, size)
+}
+
+/// Copies `size` cells from the place in `p` to the place in `q`.
+#[tactic(auto, using(crate::proofs::Filled::sized))]
+pub(crate) fn copy_between(
+    alloc: Global,
+    nodes: &mut Nodes,
+    size: u32,
+    p: u32,
+    q: u32,
+) -> Result<(), Memory>
+    ensures { OnOk result (AddsCode nodes.old nodes.new (copied_between size p q)) }
+{
+    if size == 0 {
+        return Ok(());
+    }
+    if size == 1 {
+        return copy_word(nodes, p, q);
+    }
+    if size == 2 {
+        return copy_pair(alloc, nodes, p, q);
+    }
+    copy_far(alloc, nodes, size, p, q)
+}
+
+/// Copies cells from the place in `p`, by the loop.
+fn copy_on(alloc: Global, nodes: &mut Nodes, size: u32, p: u32) -> Result<(), Memory>
+    ensures { OnOk result (AddsCode nodes.old nodes.new (DoP (Op.Move from p) ▸ copied size)) }
+{
+    put(nodes, Op::Move(FROM, p))?;
+    copy_cells(alloc, nodes, size)
+}
+
+/// Copies `size` cells from the place in `p` to the place that is written.
+#[tactic(auto, using(crate::proofs::Filled::sized))]
+pub(crate) fn copy_from(alloc: Global, nodes: &mut Nodes, size: u32, p: u32) -> Result<(), Memory>
+    ensures { OnOk result (AddsCode nodes.old nodes.new (copied_on size p)) }
+{
+    if size == 0 {
+        return Ok(());
+    }
+    if size == 1 {
+        return copy_word(nodes, p, TO);
+    }
+    if size == 2 {
+        return copy_pair(alloc, nodes, p, TO);
+    }
+    copy_on(alloc, nodes, size, p)
+}
+
+/// Copies the cell at the place in `t` to a local, and puts a pointer to that into `t`.
+fn read_word(nodes: &mut Nodes, local: u32, t: u32) -> Result<(), Memory>
+    ensures { OnOk result (AddsCode nodes.old nodes.new (word_read local t)) }
+{
+    put(nodes, Op::Load(CELL, t))?;
+    put(nodes, Op::Local(t, local))?;
+    put(nodes, Op::Store(t, CELL))
+}
+
+/// Stores the first of two cells in a local, and puts a pointer to that into `t`.
+fn store_first(nodes: &mut Nodes, local: u32, t: u32) -> Result<(), Memory>
+    ensures { OnOk result (AddsCode nodes.old nodes.new (DoP (Op.Local t local) ▸ DoP (Op.Store t cell))) }
+{
+    put(nodes, Op::Local(t, local))?;
+    put(nodes, Op::Store(t, CELL))
+}
+
+/// Copies the first of the two cells at the place in `t` to a local, and puts a pointer to that into `t`.
+fn read_first(nodes: &mut Nodes, local: u32, t: u32) -> Result<(), Memory>
+    ensures { OnOk result (AddsCode nodes.old nodes.new
+        (DoP (Op.Load cell t) ▸ DoP (Op.Const one 1) ▸ DoP (Op.Step from t one) ▸ DoP (Op.Local t local) ▸ DoP (Op.Store t cell))) }
+{
+    put(nodes, Op::Load(CELL, t))?;
+    point_second(nodes, t)?;
+    store_first(nodes, local, t)
+}
+
+/// Copies the two cells at the place in `t` to a local, and puts a pointer to that into `t`.
+fn read_pair(alloc: Global, nodes: &mut Nodes, local: u32, t: u32) -> Result<(), Memory>
+    ensures { OnOk result (AddsCode nodes.old nodes.new (pair_read local t)) }
+{
+    read_first(nodes, local, t)?;
+    ask(alloc, nodes)?;
+    copy_second(nodes, t)
+}
+
+/// Copies the cells at the place in `t` to a local by the loop, and puts a pointer to that into `t`.
+fn read_cells(alloc: Global, nodes: &mut Nodes, size: u32, local: u32, t: u32) -> Result<(), Memory>
+    ensures { OnOk result (AddsCode nodes.old nodes.new
+        (DoP (Op.Move from t) ▸ DoP (Op.Local to local) ▸ copied size ▸ DoP (Op.Local t local))) }
+{
+    put(nodes, Op::Move(FROM, t))?;
+    put(nodes, Op::Local(TO, local))?;
+    copy_cells(alloc, nodes, size)?;
+    put(nodes, Op::Local(t, local))
+}
+
 /// Copies the structure at the place in `t` to a local, and puts a pointer to that into `t`.
+#[tactic(auto, using(crate::proofs::Filled::sized))]
+fn fill_local(alloc: Global, nodes: &mut Nodes, size: u32, local: u32, t: u32) -> Result<(), Memory>
+    ensures { OnOk result (AddsCode nodes.old nodes.new (local_filled size local t)) }
+{
+    if size == 0 {
+        return put(nodes, Op::Local(t, local));
+    }
+    if size == 1 {
+        return read_word(nodes, local, t);
+    }
+    if size == 2 {
+        return read_pair(alloc, nodes, local, t);
+    }
+    read_cells(alloc, nodes, size, local, t)
+}
+
+/// Makes a local, copies the structure at the place in `t` to it, and puts a pointer to it into `t`.
 pub(crate) fn read_structure(
     alloc: Global,
     nodes: &mut Nodes,
@@ -195,10 +381,7 @@ pub(crate) fn read_structure(
     ensures { OnOk result (AddsCode nodes.old nodes.new (structure_read size local t)) }
 {
     put(nodes, Op::Fresh(local))?;
-    put(nodes, Op::Move(FROM, t))?;
-    put(nodes, Op::Local(TO, local))?;
-    copy_cells(alloc, nodes, size)?;
-    put(nodes, Op::Local(t, local))
+    fill_local(alloc, nodes, size, local, t)
 }
 
 /// Stores the value in a at the place in p.
@@ -212,9 +395,7 @@ pub(crate) fn store(
     ensures { OnOk result (AddsCode nodes.old nodes.new (stored (shape_of s.now) (ctype ty.now) p a)) }
 {
     if is_structure(ty) {
-        put(nodes, Op::Move(FROM, a))?;
-        put(nodes, Op::Move(TO, p))?;
-        copy_cells(s.alloc, nodes, s.words(ty))
+        copy_between(s.alloc, nodes, s.words(ty), a, p)
     } else {
         put(nodes, Op::Store(p, a))
     }

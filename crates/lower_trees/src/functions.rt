@@ -12,7 +12,7 @@ ghost use Rattle.lower_trees.specs.Statements.{low_stmts, ToEnd};
 ghost use Rattle.lower_trees.specs.inner.Adding.{AddsCode};
 ghost use Rattle.lower_trees.specs.View.{shape_of};
 
-use crate::cells::{FIRST_PARAM, FROM, RESULT_AT, TO, copy_cells, make, put};
+use crate::cells::{FIRST_PARAM, RESULT_AT, TO, copy_from, make, put};
 use crate::finishing::lead;
 use crate::jump::{Exits, JumpTo};
 use crate::looping::put_block;
@@ -37,9 +37,8 @@ fn receive(s: &Reading<'_>, nodes: &mut Nodes, ty: &CType, k: u32, a: u32) -> Re
     ensures { OnOk result (AddsCode nodes.old nodes.new (received (shape_of s.now) (ctype ty.now) k a)) }
 {
     if is_structure(ty) {
-        put(nodes, Op::Move(FROM, a))?;
         put(nodes, Op::Local(TO, k))?;
-        copy_cells(s.alloc, nodes, s.words(ty))
+        copy_from(s.alloc, nodes, s.words(ty), a)
     } else {
         put(nodes, Op::Local(param_at(k), k))?;
         put(nodes, Op::Store(param_at(k), a))

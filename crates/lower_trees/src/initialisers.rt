@@ -10,7 +10,7 @@ ghost use Rattle.lower_trees.specs.Initialisers.{low_init, low_inits, object_to,
 ghost use Rattle.lower_trees.specs.inner.Adding.{Adds, AddsCode, HasRoom};
 ghost use Rattle.lower_trees.specs.View.{shape_of};
 
-use crate::cells::{FROM, ITEM, OBJECT, TO, copy_cells, move_by, put, zero_cells};
+use crate::cells::{FROM, ITEM, OBJECT, TO, copy_cells, copy_from, move_by, put, zero_cells};
 use crate::expressions::value;
 use crate::kinds::is_flag;
 use crate::operating::convert;
@@ -55,9 +55,8 @@ fn fill_part(
     ensures { OnOk result (AddsCode nodes.old nodes.new (part_filled (shape_of s.now) (ctype ty.now) p offset)) }
 {
     if is_structure(ty) {
-        put(nodes, Op::Move(FROM, ITEM))?;
         point(nodes, p, offset)?;
-        copy_cells(s.alloc, nodes, s.words(ty))
+        copy_from(s.alloc, nodes, s.words(ty), ITEM)
     } else {
         fill_cell(nodes, p, offset)
     }

@@ -13,9 +13,7 @@ ghost use Rattle.lower_trees.specs.inner.MaybeStatements.{maybe_texpr};
 ghost use Rattle.lower_trees.specs.Flags.{is_flag};
 ghost use Rattle.lower_trees.specs.View.{shape_of, jump_of};
 
-use crate::cells::{
-    FROM, ONE, OTHER, RESULT_AT, TO, add, alone, copy_cells, put, put_choice, put_loop,
-};
+use crate::cells::{ONE, OTHER, RESULT_AT, add, alone, copy_between, put, put_choice, put_loop};
 use crate::expressions::{test, value};
 use crate::jump::JumpTo;
 use crate::kinds::is_flag;
@@ -355,9 +353,7 @@ fn give_back(s: &Reading<'_>, nodes: &mut Nodes, ty: &CType, t: u32) -> Result<(
     ensures { OnOk result (AddsCode nodes.old nodes.new (returned (shape_of s.now) (ctype ty.now) t)) }
 {
     if is_structure(ty) {
-        put(nodes, Op::Move(FROM, t))?;
-        put(nodes, Op::Move(TO, RESULT_AT))?;
-        copy_cells(s.alloc, nodes, s.words(ty))?;
+        copy_between(s.alloc, nodes, s.words(ty), t, RESULT_AT)?;
         put_return(nodes, None)
     } else {
         put_return(nodes, Some(t))

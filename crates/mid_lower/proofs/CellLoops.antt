@@ -1,5 +1,5 @@
--- Loops over cells: one turn per cell, in mid code as in the meaning.
-use Rattle.std.proofs.Common.{◌≡◌, ℕ, zero, suc, ◌+◌, ◌*◌, ◌-◌, ◌%◌, ◌^◌, ◌<◌, ◌≤◌, List, Some, None, Ok, refl, sym, ap, ◌∙◌, subst, arith}
+-- Loops over cells, one turn per cell, and copies of one and two words by straight code: in mid code as in the meaning.
+use Rattle.std.proofs.Common.{◌≡◌, ℕ, zero, suc, ◌+◌, ◌*◌, ◌-◌, ◌%◌, ◌^◌, ◌<◌, ◌≤◌, List, Some, None, Ok, Err, false, eqb, refl, sym, ap, ◌∙◌, subst, arith}
 use Rattle.std.proofs.Math.Nat.{add-mod_right}
 use Rattle.std.proofs.lemmas.Nat.{mod-mul-add}
 use Rattle.kit_base.specs.Word.{sub}
@@ -10,11 +10,13 @@ use Rattle.obj_mem.specs.declared.cell.Cell.{Cell}
 use Rattle.obj_mem.specs.declared.cell.Cell.TheVariants.{Unwritten, Num, Ptr, Null}
 use Rattle.obj_mem.specs.Stores.{with_objects}
 use Rattle.obj_mem.specs.Worlds.{World, on_store, spend}
-use Rattle.obj_mem.specs.Queries.{read, write, further}
+use Rattle.obj_mem.specs.declared.refusal.Refusal.TheVariants.{Strays, Faults}
+use Rattle.obj_mem.specs.Queries.{Answer, then_ask, read, write, further}
+use Rattle.c_meaning.specs.declared.end.End.{End}
 use Rattle.c_meaning.specs.declared.end.End.TheVariants.{Stray, OutOfBound}
 use Rattle.c_meaning.specs.Outcomes.{Went, Through, CutOff, asked, then_went}
 use Rattle.c_meaning.specs.Cells.{next_turn, cells_set}
-use Rattle.mid_code.specs.Code.{CodeT, ConstO, TwoO, StepO, LoadO, StoreO, NodesT, Stop, Do, Choose, Loop, Again}
+use Rattle.mid_code.specs.Code.{CodeT, ConstO, MoveO, TwoO, StepO, LoadO, StoreO, NodesT, Stop, Do, Choose, Loop, Again}
 use Rattle.mid_code.specs.Meaning.{Res, Next, Leaves, Repeats, Returns, Over, then_next, turn_done, choose, does}
 use Rattle.mid_code.specs.Meaning.{below as mid_below}
 use Rattle.mid_code.specs.States.{temporaries, to, spent, word_tested, over_worlds}
@@ -24,7 +26,7 @@ use Rattle.lower_trees.specs.Parts as part
 use Rattle.mid_lower.proofs.Grows.{Mid, Grows, all_of, more, then_grows, turn_grows, node_grows}
 use Rattle.mid_lower.proofs.Under.{read_both}
 use Rattle.mid_lower.proofs.Fits.{Site}
-use Rattle.mid_lower.proofs.Following.{Side, mk, Goal, Now, Way, Kept, events_of, paid, paid_now, fin_now, stopped, spare, now_work, kept_through, low_free, eqb_more, L, M, M_grows, op, sets}
+use Rattle.mid_lower.proofs.Following.{Side, mk, set, Goal, Now, Way, Kept, Rest, events_of, paid, paid_now, set_now, putting, put_other, fin_now, stopped, spare, now_work, kept_through, low_free, eqb_more, L, M, M_grows, op, sets}
 use Rattle.mid_lower.proofs.Instructions.{asked_then, two_eq, step_eq, from_eq}
 use Rattle.mid_lower.proofs.Storing.{stores}
 
@@ -242,3 +244,151 @@ module _ (S : Site) (γ : Goal) (span : Span) (cost : ℕ) (some : 1 ≤ cost) w
       subst (σ.T r) (looped (coded part.zero_turn Stop) c (mk w u))
       (after_loop σ s0 u c go (λ v e he others. f v e he (λ j g. others j g ∙ rest3 j (eqb_more j part.cell (omega (arith, g))) ∙ rest2 j (eqb_more j part.one (omega (arith, g))) ∙ rest j (eqb_more j part.count (omega (arith, g))))) (cells_set span cost S.bound (suc left) None q w) (M (site_at S S.bound) (Loop (coded part.zero_turn Stop) Stop) (mk w u))
       (zero_loop left S.bound s0 (omega (arith, le)) q w u hu (rest3 part.count refl ∙ rest2 part.count refl ∙ at) (rest3 part.one refl ∙ at2) at3 (rest3 part.to refl ∙ rest2 part.to refl ∙ rest part.to refl ∙ et))))))
+
+  -- ---- one and two words, by straight code
+
+  -- a loop or store that something follows
+  went_of : {A R : Type 0} (stop : End → World → R) (w : World) (q : Answer A) (f : A → Went) (go : World → R) → then_went stop (asked CutOff span w q f) go ≡ asked stop span w q (λ a. then_went stop (f a) go)
+  went_of stop w (Ok a) f go = refl
+  went_of stop w (Err Strays) f go = refl
+  went_of stop w (Err (Faults k)) f go = refl
+
+  went_then : {A B R : Type 0} (stop : End → World → R) (w : World) (q : Answer A) (r : A → Answer B) (f : B → Went) (go : World → R) → then_went stop (asked CutOff span w (then_ask q r) f) go ≡ asked stop span w q (λ a. asked stop span w (r a) (λ b. then_went stop (f b) go))
+  went_then stop w (Ok a) r f go = went_of stop w (r a) f go
+  went_then stop w (Err Strays) r f go = refl
+  went_then stop w (Err (Faults k)) r f go = refl
+
+  -- the further turns behind a word
+  abbrev pub Turns : (left n : ℕ) (p q : Cell) → World → Went
+  Turns left n p q u = next_turn left n u (λ m v. cells_set span cost m left (Some (further p 1)) (further q 1) v)
+
+  -- the next word is read; what follows writes it
+  pub cell_first : (σ : Way γ) (s0 n left a : ℕ) (p q : Cell) (w : World) (x : Side) (c : NodesT ℕ) → Now γ s0 w x → x.temps a ≡ p → (go : World → σ.R)
+      → ((v : Cell) (y : Side) → Now γ (s0 + 56) (spend cost w) y → y.temps part.cell ≡ v → Rest part.cell x y → σ.T (asked σ.stop span (spend cost w) (write w.store.objects q v) (λ os. then_went σ.stop (Turns left n p q (on_store (with_objects os) (spend cost w))) go)) (M S c (mk (spend cost w) y)))
+      → σ.T (then_went σ.stop (cells_set span cost n (suc left) (Some p) q w) go) (M S (Do (LoadO part.cell a) c) (mk w x))
+  cell_first σ s0 n left a p q w x c h ea go f =
+      let w1 : World = spend cost w in
+      subst (λ r. σ.T r (M S (Do (LoadO part.cell a) c) (mk w x))) (sym (went_then σ.stop w1 (read w.store.objects p) (λ v. write w.store.objects q v) (λ os. Turns left n p q (on_store (with_objects os) w1)) go))
+      (op S γ σ (s0 + 56) span w1 x part.cell (read w.store.objects p) (read x.objs (x.temps a)) (LoadO part.cell a) c (spare γ (s0 + 64) (s0 + 56 + 8) w1 x (omega arith) (counted s0 w x h)) (low_free γ part.cell (omega arith))
+      (from_eq (read w.store.objects p) (read x.objs p) (read x.objs (x.temps a)) (ap (λ u. read x.objs u) ea) (read_both w.store.objects x.objs p h.stays.fit.under)) refl
+      (λ v. asked σ.stop span w1 (write w.store.objects q v) (λ os. then_went σ.stop (Turns left n p q (on_store (with_objects os) w1)) go)) (λ v y hy at rest. f v y hy at rest))
+
+  -- one word is copied
+  pub word_copies : (σ : Way γ) (s0 n a b : ℕ) (p q : Cell) (w : World) (x : Side) (c : NodesT ℕ) → Now γ s0 w x → 3 ≤ b → x.temps a ≡ p → x.temps b ≡ q → (go : World → σ.R) → ((v : World) (y : Side) → Now γ (s0 + 48) v y → Rest part.cell x y → σ.T (go v) (M S c (mk v y)))
+      → σ.T (then_went σ.stop (cells_set span cost n (suc zero) (Some p) q w) go) (M S (coded (part.word_copied a b) c) (mk w x))
+  word_copies σ s0 n a b p q w x c h le ea eb go f =
+      cell_first σ s0 n zero a p q w x (Do (StoreO b part.cell) c) h ea go (λ v y hy at rest.
+      stores S γ σ span (spend cost w) (s0 + 48) y b part.cell q v c (spare γ (s0 + 56) (s0 + 48 + 8) (spend cost w) y (omega arith) hy) (rest b (eqb_more b part.cell (omega (arith, le))) ∙ eb) at go
+      (λ os z hz alike. f (on_store (with_objects os) (spend cost w)) z hz (λ j ne. alike j ∙ rest j ne)))
+
+  -- the word behind the first, whose place `from` has; b has the place of the first
+  pub word_behind : (σ : Way γ) (s0 n o i b d j : ℕ) (w : World) (x : Side) (c : NodesT ℕ) → Now γ s0 w x → 3 ≤ b → x.temps part.one ≡ Num 1 → x.temps part.from ≡ Ptr o i → x.temps b ≡ Ptr d j → (go : World → σ.R)
+      → ((v : World) (y : Side) → Now γ (s0 + 40) v y → ((k : ℕ) → eqb k part.cell ≡ false → eqb k part.to ≡ false → y.temps k ≡ x.temps k) → σ.T (go v) (M S c (mk v y)))
+      → σ.T (then_went σ.stop (cells_set span cost n (suc zero) (Some (Ptr o i)) (further (Ptr d j) 1) w) go) (M S (Do (LoadO part.cell part.from) (Do (StepO part.to b part.one) (Do (StoreO part.to part.cell) c))) (mk w x))
+  word_behind σ s0 n o i b d j w x c h le e1 ef eb go f =
+      let q : Cell = further (Ptr d j) 1 in
+      let w1 : World = spend cost w in
+      cell_first σ s0 n zero part.from (Ptr o i) q w x (Do (StepO part.to b part.one) (Do (StoreO part.to part.cell) c)) h ef go (λ v y hy at rest.
+      sets S σ.T γ (s0 + 48) w1 y part.to q (StepO part.to b part.one) (Do (StoreO part.to part.cell) c) (spare γ (s0 + 56) (s0 + 48 + 8) w1 y (omega arith) hy) (low_free γ part.to (omega arith))
+      (ap (λ u. to temporaries part.to u (spent 8 (mk w1 y))) (step_eq (Ptr d j) (Num 1) (y.temps b) (y.temps part.one) (rest b (eqb_more b part.cell (omega (arith, le))) ∙ eb) (rest part.one refl ∙ e1)))
+      (asked σ.stop span w1 (write w.store.objects q v) (λ os. go (on_store (with_objects os) w1))) (λ z hz at2 rest2.
+      stores S γ σ span w1 (s0 + 40) z part.to part.cell q v c (spare γ (s0 + 48) (s0 + 40 + 8) w1 z (omega arith) hz) at2 (rest2 part.cell refl ∙ at) go
+      (λ os u hu alike. f (on_store (with_objects os) w1) u hu (λ k nc nt. alike k ∙ rest2 k nt ∙ rest k nc))))
+
+  -- ---- the turn that is asked for between two words
+
+  abbrev asking_steps : NodesT ℕ
+  asking_steps = Do (ConstO part.count 0) (Again 0 Stop)
+
+  abbrev asking : NodesT ℕ
+  asking = Choose part.count asking_steps Stop Stop
+
+  -- the state in which the further turn begins
+  abbrev asked_side : Side → Side
+  asked_side y = record y { temps = putting y.temps part.count (Num 0); work = y.work + 8 + 8 + 8 + 8 }
+
+  asked_is : (w : World) (y : Side) (c : NodesT ℕ) → y.temps part.count ≡ Num 1 → M S (Loop asking c) (mk w y) ≡ then_next (mid_below (L S) S.bound (Loop asking Stop) (mk w (asked_side y))) (M S c)
+  asked_is w y c at =
+      ap (λ d. then_next (turn_done (then_next (choose (word_tested d) (mk w (paid (paid y))) (M S asking_steps) (M S Stop)) (M S Stop)) (S.prev' (Loop asking Stop))) (M S c)) at
+      ∙ ap (λ p. then_next (p (Loop asking Stop) (mk w (asked_side y))) (M S c)) S.is_below
+
+  pub turn_asked : (σ : Way γ) (s0 : ℕ) (w : World) (x : Side) (c : NodesT ℕ) → Now γ (s0 + 56) w x → (turn : ℕ → World → Went) (go : World → σ.R) → ((m : ℕ) (y : Side) → Now γ s0 w y → Rest part.count x y → σ.T (then_went σ.stop (turn m w) go) (M S c (mk w y)))
+      → σ.T (then_went σ.stop (next_turn (suc zero) S.bound w turn) go) (M S (coded part.asked c) (mk w x))
+  turn_asked σ s0 w x c h turn go f =
+      let r : σ.R = then_went σ.stop (next_turn (suc zero) S.bound w turn) go in
+      sets S σ.T γ (s0 + 48) w x part.count (Num 1) (ConstO part.count 1) (Loop asking c) (spare γ (s0 + 56) (s0 + 48 + 8) w x (omega arith) h) (low_free γ part.count (omega arith)) refl r (λ y hy at rest.
+      subst (σ.T r) (sym (asked_is w y c at)) (by y rest (set_now γ (s0 + 24) w (paid (paid y)) part.count (Num 0) (low_free γ part.count (omega arith)) (twice (s0 + 24 + 8) w y (spare γ (s0 + 48) (s0 + 24 + 8 + 16) w y (omega arith) hy))) S.bound))
+    where
+      twice : (s : ℕ) (w : World) (y : Side) → Now γ (s + 16) w y → Now γ s w (paid (paid y))
+      twice s w y hy = paid_now γ s w (paid y) (paid_now γ (s + 8) w y (spare γ (s + 16) (s + 8 + 8) w y (omega arith) hy))
+
+      by : (y : Side) → Rest part.count x y → Now γ (s0 + 24) w (set part.count (Num 0) (paid (paid y))) → (i : ℕ) → σ.T (then_went σ.stop (next_turn (suc zero) i w turn) go) (then_next (mid_below (L S) i (Loop asking Stop) (mk w (asked_side y))) (M S c))
+      by y rest hy zero = σ.stops OutOfBound w _ (stopped γ OutOfBound w (asked_side y) _ (fin_now γ (s0 + 16) w (asked_side y) (paid_now γ (s0 + 16) w (set part.count (Num 0) (paid (paid y))) (spare γ (s0 + 24) (s0 + 16 + 8) w (set part.count (Num 0) (paid (paid y))) (omega arith) hy))) refl)
+      by y rest hy (suc m) =
+          let z : Side = set part.count (Num 0) (paid (paid y)) in
+          f m (paid (paid (paid z))) (paid_now γ s0 w (paid (paid z)) (twice (s0 + 8) w z (spare γ (s0 + 24) (s0 + 8 + 16) w z (omega arith) hy))) (λ j ne. put_other y.temps part.count j (Num 0) ne ∙ rest j ne)
+
+  -- two words are copied
+  pub pair_copies : (σ : Way γ) (s0 a b : ℕ) (p q : Cell) (w : World) (x : Side) (c : NodesT ℕ) → Now γ (s0 + 24) w x → 3 ≤ a → 3 ≤ b → x.temps a ≡ p → x.temps b ≡ q → eqb b part.from ≡ false → (go : World → σ.R) → ((v : World) (y : Side) → Now γ (s0 + 40) v y → Others x y → σ.T (go v) (M S c (mk v y)))
+      → σ.T (then_went σ.stop (cells_set span cost S.bound (suc (suc zero)) (Some p) q w) go) (M S (coded (part.pair_copied a b) c) (mk w x))
+  pair_copies σ s0 a b (Ptr o i) q w x c h la lb ea eb nb go f =
+      cell_first σ (s0 + 24) S.bound (suc zero) a (Ptr o i) q w x (Do (StoreO b part.cell) (coded part.asked behind)) h ea go (λ v y hy at rest. first q v y (spare γ (s0 + 24 + 56) (s0 + 80) w1 y (omega arith) hy) at rest eb)
+    where
+      w1 : World
+      w1 = spend cost w
+
+      second : NodesT ℕ
+      second = Do (LoadO part.cell part.from) (Do (StepO part.to b part.one) (Do (StoreO part.to part.cell) c))
+
+      behind : NodesT ℕ
+      behind = Do (ConstO part.one 1) (Do (StepO part.from a part.one) second)
+
+      first : (q v : Cell) (y : Side) → Now γ (s0 + 80) w1 y → y.temps part.cell ≡ v → Rest part.cell x y → x.temps b ≡ q → σ.T (asked σ.stop span w1 (write w.store.objects q v) (λ os. then_went σ.stop (Turns (suc zero) S.bound (Ptr o i) q (on_store (with_objects os) w1)) go)) (M S (Do (StoreO b part.cell) (coded part.asked behind)) (mk w1 y))
+      first (Ptr d j) v y hy at rest eb =
+          stores S γ σ span w1 (s0 + 72) y b part.cell (Ptr d j) v (coded part.asked behind) (spare γ (s0 + 80) (s0 + 72 + 8) w1 y (omega arith) hy) (rest b (eqb_more b part.cell (omega (arith, lb))) ∙ eb) at (λ u. then_went σ.stop (Turns (suc zero) S.bound (Ptr o i) (Ptr d j) u) go)
+          (λ os z hz alike.
+          let w2 : World = on_store (with_objects os) w1 in
+          let turn : ℕ → World → Went = λ m v. cells_set span cost m (suc zero) (Some (further (Ptr o i) 1)) (further (Ptr d j) 1) v in
+          turn_asked σ (s0 + 16) w2 z behind (spare γ (s0 + 72) (s0 + 16 + 56) w2 z (omega arith) hz) turn go
+          (λ m t ht rest2.
+          let r : σ.R = then_went σ.stop (turn m w2) go in
+          sets S σ.T γ (s0 + 8) w2 t part.one (Num 1) (ConstO part.one 1) (Do (StepO part.from a part.one) second) (spare γ (s0 + 16) (s0 + 8 + 8) w2 t (omega arith) ht) (low_free γ part.one (omega arith)) refl r (λ e he at3 rest3.
+          sets S σ.T γ s0 w2 e part.from (further (Ptr o i) 1) (StepO part.from a part.one) second (spare γ (s0 + 8) (s0 + 8) w2 e (omega arith) he) (low_free γ part.from (omega arith))
+          (ap (λ u. to temporaries part.from u (spent 8 (mk w2 e))) (step_eq (Ptr o i) (Num 1) (e.temps a) (e.temps part.one) (rest3 a (eqb_more a part.one (omega (arith, la))) ∙ rest2 a (eqb_more a part.count (omega (arith, la))) ∙ alike a ∙ rest a (eqb_more a part.cell (omega (arith, la))) ∙ ea) at3)) r (λ g hg at4 rest4.
+          word_behind σ s0 m o _ b d j w2 g c hg lb (rest4 part.one refl ∙ at3) at4 (rest4 b nb ∙ rest3 b (eqb_more b part.one (omega (arith, lb))) ∙ rest2 b (eqb_more b part.count (omega (arith, lb))) ∙ alike b ∙ rest b (eqb_more b part.cell (omega (arith, lb))) ∙ eb) go
+          (λ v u hu others. f v u hu (λ k le. others k (eqb_more k part.cell (omega (arith, le))) (eqb_more k part.to (omega (arith, le))) ∙ rest4 k (eqb_more k part.from (omega (arith, le))) ∙ rest3 k (eqb_more k part.one (omega (arith, le))) ∙ rest2 k (eqb_more k part.count (omega (arith, le))) ∙ alike k ∙ rest k (eqb_more k part.cell (omega (arith, le)))))))))
+      first Unwritten v y hy at rest eb = σ.stops (Stray span) w1 _ (M_grows S (Do (StoreO b part.cell) (coded part.asked behind)) (mk w1 y))
+      first (Num k) v y hy at rest eb = σ.stops (Stray span) w1 _ (M_grows S (Do (StoreO b part.cell) (coded part.asked behind)) (mk w1 y))
+      first Null v y hy at rest eb = σ.stops (Stray span) w1 _ (M_grows S (Do (StoreO b part.cell) (coded part.asked behind)) (mk w1 y))
+  pair_copies σ s0 a b Unwritten q w x c h la lb ea eb nb go f = σ.stops (Stray span) (spend cost w) _ (M_grows S (coded (part.pair_copied a b) c) (mk w x))
+  pair_copies σ s0 a b (Num k) q w x c h la lb ea eb nb go f = σ.stops (Stray span) (spend cost w) _ (M_grows S (coded (part.pair_copied a b) c) (mk w x))
+  pair_copies σ s0 a b Null q w x c h la lb ea eb nb go f = σ.stops (Stray span) (spend cost w) _ (M_grows S (coded (part.pair_copied a b) c) (mk w x))
+
+  -- ---- copies of any size, between places and to the place in `to`
+
+  pub copies_between : (σ : Way γ) (s0 size : ℕ) → size ≤ 2 ^ 32 → (a b : ℕ) (p q : Cell) (w : World) (x : Side) (c : NodesT ℕ) → Now γ (s0 + 32) w x → 5 ≤ a → 5 ≤ b → x.temps a ≡ p → x.temps b ≡ q → (go : World → σ.R) → ((v : World) (y : Side) → Now γ (s0 + 16) v y → Others x y → σ.T (go v) (M S c (mk v y)))
+      → σ.T (then_went σ.stop (cells_set span cost S.bound size (Some p) q w) go) (M S (coded (part.copied_between size a b) c) (mk w x))
+  copies_between σ s0 zero le a b p q w x c h la lb ea eb go f = f w x (spare γ (s0 + 32) (s0 + 16) w x (omega arith) h) (λ j g. refl)
+  copies_between σ s0 (suc zero) le a b p q w x c h la lb ea eb go f =
+      word_copies σ (s0 + 32) S.bound a b p q w x c h (omega (arith, lb)) ea eb go (λ v y hy rest. f v y (spare γ (s0 + 32 + 48) (s0 + 16) v y (omega arith) hy) (λ j g. rest j (eqb_more j part.cell (omega (arith, g)))))
+  copies_between σ s0 (suc (suc zero)) le a b p q w x c h la lb ea eb go f =
+      pair_copies σ (s0 + 8) a b p q w x c (spare γ (s0 + 32) (s0 + 8 + 24) w x (omega arith) h) (omega (arith, la)) (omega (arith, lb)) ea eb (eqb_more b part.from (omega (arith, lb))) go (λ v y hy others. f v y (spare γ (s0 + 8 + 40) (s0 + 16) v y (omega arith) hy) others)
+  copies_between σ s0 (suc (suc (suc left))) le a b p q w x c h la lb ea eb go f =
+      let size : ℕ = suc (suc (suc left)) in
+      let r : σ.R = then_went σ.stop (cells_set span cost S.bound size (Some p) q w) go in
+      sets S σ.T γ (s0 + 24) w x part.from p (MoveO part.from a) (Do (MoveO part.to b) (coded (part.copied size) c)) (spare γ (s0 + 32) (s0 + 24 + 8) w x (omega arith) h) (low_free γ part.from (omega arith)) (ap (λ z. to temporaries part.from (Ok z) (spent 8 (mk w x))) ea) r (λ y hy ey rest.
+      sets S σ.T γ (s0 + 16) w y part.to q (MoveO part.to b) (coded (part.copied size) c) (spare γ (s0 + 24) (s0 + 16 + 8) w y (omega arith) hy) (low_free γ part.to (omega arith)) (ap (λ z. to temporaries part.to (Ok z) (spent 8 (mk w y))) (rest b (eqb_more b part.from (omega (arith, lb))) ∙ eb)) r (λ z hz ez rest2.
+      copies σ s0 size le p q w z c hz (rest2 part.from refl ∙ ey) ez go (λ v u hu others. f v u hu (λ j g. others j g ∙ rest2 j (eqb_more j part.to (omega (arith, g))) ∙ rest j (eqb_more j part.from (omega (arith, g)))))))
+
+  pub copies_on : (σ : Way γ) (s0 size : ℕ) → size ≤ 2 ^ 32 → (a : ℕ) (p q : Cell) (w : World) (x : Side) (c : NodesT ℕ) → Now γ (s0 + 24) w x → 5 ≤ a → x.temps a ≡ p → x.temps part.to ≡ q → (go : World → σ.R) → ((v : World) (y : Side) → Now γ (s0 + 16) v y → Others x y → σ.T (go v) (M S c (mk v y)))
+      → σ.T (then_went σ.stop (cells_set span cost S.bound size (Some p) q w) go) (M S (coded (part.copied_on size a) c) (mk w x))
+  copies_on σ s0 zero le a p q w x c h la ea et go f = f w x (spare γ (s0 + 24) (s0 + 16) w x (omega arith) h) (λ j g. refl)
+  copies_on σ s0 (suc zero) le a p q w x c h la ea et go f =
+      word_copies σ (s0 + 24) S.bound a part.to p q w x c h (omega arith) ea et go (λ v y hy rest. f v y (spare γ (s0 + 24 + 48) (s0 + 16) v y (omega arith) hy) (λ j g. rest j (eqb_more j part.cell (omega (arith, g)))))
+  copies_on σ s0 (suc (suc zero)) le a p q w x c h la ea et go f =
+      pair_copies σ s0 a part.to p q w x c h (omega (arith, la)) (omega arith) ea et refl go (λ v y hy others. f v y (spare γ (s0 + 40) (s0 + 16) v y (omega arith) hy) others)
+  copies_on σ s0 (suc (suc (suc left))) le a p q w x c h la ea et go f =
+      let size : ℕ = suc (suc (suc left)) in
+      let r : σ.R = then_went σ.stop (cells_set span cost S.bound size (Some p) q w) go in
+      sets S σ.T γ (s0 + 16) w x part.from p (MoveO part.from a) (coded (part.copied size) c) (spare γ (s0 + 24) (s0 + 16 + 8) w x (omega arith) h) (low_free γ part.from (omega arith)) (ap (λ z. to temporaries part.from (Ok z) (spent 8 (mk w x))) ea) r (λ y hy ey rest.
+      copies σ s0 size le p q w y c hy ey (rest part.to refl ∙ et) go (λ v u hu others. f v u hu (λ j g. others j g ∙ rest j (eqb_more j part.from (omega (arith, g))))))

@@ -1,5 +1,5 @@
 -- Functions, and every bound: mid code follows the trees.
-use Rattle.std.proofs.Common.{◌≡◌, ℕ, zero, suc, ◌+◌, ◌*◌, ◌^◌, ◌<◌, ◌≤◌, Bool, true, false, cond, eqb, List, [], ◌∷◌, ◌++◌, length, get_or, slice_get, nat_lt, Some, None, Ok, refl, sym, ap, ◌∙◌, subst, arith, if◌then◌else◌}
+use Rattle.std.proofs.Common.{◌≡◌, ℕ, zero, suc, ◌+◌, ◌*◌, ◌^◌, ◌<◌, ◌≤◌, Bool, true, false, cond, eqb, List, [], ◌∷◌, ◌++◌, length, get_or, slice_get, nat_lt, Some, None, refl, sym, ap, ◌∙◌, subst, arith, if◌then◌else◌}
 use Rattle.std.proofs.lemmas.Bool.{eq-eqb, ltb-true, false≢true}
 use Rattle.std.specs.Option.{option_map_or}
 use Rattle.c_types.specs.Types.{Ty, VoidY}
@@ -15,10 +15,10 @@ use Rattle.c_meaning.specs.Outcomes.{Went, Through, CutOff, Done, Goes, Breaks, 
 use Rattle.c_meaning.specs.Setting.{Setting}
 use Rattle.c_meaning.specs.Cells.{cells_set, stored}
 use Rattle.c_meaning.specs.Statements.{does_all, params_stored, body_of, below}
-use Rattle.mid_code.specs.Code.{MoveO, LocalO, StoreO, NodesT, Stop, Do, Block, CodeT}
+use Rattle.mid_code.specs.Code.{LocalO, StoreO, NodesT, Stop, Do, Block, CodeT}
 use Rattle.mid_code.specs.Meaning.{Res, Next, then_next, block_done}
 use Rattle.mid_code.specs.Meaning.{below as mid_below}
-use Rattle.mid_code.specs.States.{temporaries, to, spent, received, function_at, over_worlds}
+use Rattle.mid_code.specs.States.{temporaries, received, function_at, over_worlds}
 use Rattle.mid_code.specs.inner.Passing.{Prefix}
 use Rattle.lower_trees.specs.Shape.{Shape, shape_in, words}
 use Rattle.lower_trees.specs.Parts as part
@@ -35,12 +35,12 @@ use Rattle.mid_lower.proofs.Giving.{Giving, giving, handed}
 use Rattle.mid_lower.proofs.Lives.{Gone}
 use Rattle.lower_trees.specs.Counts.{value_sizes, stmt_sizes, maybe_sizes, stmts_sizes}
 use Rattle.mid_lower.proofs.Room.{Room, room_at, get_first, get_second}
-use Rattle.mid_lower.proofs.Following.{base_of, events_of, Side, mk, Goal, stays_here, Now, Way, paid, paid_now, spare, now_work, kept_wider, kept_through, low_free, eqb_less, eqb_more, M, M_grows, op, sets}
+use Rattle.mid_lower.proofs.Following.{base_of, events_of, Side, mk, Goal, stays_here, Now, Way, paid, paid_now, spare, now_work, kept_wider, kept_through, low_free, eqb_less, eqb_more, M, M_grows, op}
 use Rattle.mid_lower.proofs.Words.{in_words}
 use Rattle.mid_lower.proofs.Storing.{stores, went_asked}
 use Rattle.mid_lower.proofs.Values.{local_front}
 use Rattle.mid_lower.proofs.Calling.{SimF, body_goal, at_entry, unmade, BodiesFollow}
-use Rattle.mid_lower.proofs.CellLoops.{below_grows, copies}
+use Rattle.mid_lower.proofs.CellLoops.{below_grows, copies_on}
 use Rattle.mid_lower.proofs.FillParts.{went_went}
 use Rattle.mid_lower.proofs.Outcomes.{AtPlace, has_place, SimD, plain, turning, turn_wide, turn_now}
 use Rattle.mid_lower.proofs.Locals.{HomeOf, mades}
@@ -153,7 +153,7 @@ module _ (S : Site) (v : Giving) where
       let t : ℕ = part.param_at k in
       let small : t < 16 = param_fixed k in
       let inside : Cell → Went = λ p. then_went CutOff (stored S.s S.bound 0 ty nowhere p z w) rest in
-      subst (λ q. SimF v γ (then_went Ended (asked CutOff nowhere w (first_cell (local_object w.store.locals k)) inside) go) (R (if q then Do (MoveO part.from a) (Do (LocalO part.to k) (coded (part.copied (words h ty)) c)) else Do (LocalO t k) (Do (StoreO t a) c)) (mk w x))) (sym scalar)
+      subst (λ q. SimF v γ (then_went Ended (asked CutOff nowhere w (first_cell (local_object w.store.locals k)) inside) go) (R (if q then Do (LocalO part.to k) (coded (part.copied_on (words h ty) a) c) else Do (LocalO t k) (Do (StoreO t a) c)) (mk w x))) (sym scalar)
       (op S γ (way_w γ go) (s + 8) nowhere w x t (first_cell (local_object w.store.locals k)) (first_cell (local_object (w.store.locals ++ x.extra) k)) (LocalO t k) (Do (StoreO t a) c)
       (spare γ (s + 16) (s + 8 + 8) w x (omega arith) h0) (λ j g l ne. absurd (omega (arith, l, e))) (local_front w.store.locals x.extra k) refl inside
       (λ p y hy ey keep.
@@ -164,30 +164,29 @@ module _ (S : Site) (v : Giving) where
       (λ os u hu alike. f (on_store (with_objects os) (spend 0 w)) u hu (alike part.result_at ∙ keep part.result_at (param_elsewhere k), λ j le. alike j ∙ keep j (eqb_more j t (omega (arith, le, small))))))))))
 
   -- a structure is copied: where the run ends at that, there is more to spare
-  structure_received : (γ : Goal) (ty : Ty) (z : Cell) (s k a : ℕ) (w : World) (x : Side) (c : NodesT ℕ) → 16 ≤ γ.ends → is_structure ty ≡ true → Now γ (s + 16) w x → x.temps a ≡ z → (rest : World → Went) (go : World → Done) → Onward γ s x c rest go
+  structure_received : (γ : Goal) (ty : Ty) (z : Cell) (s k a : ℕ) (w : World) (x : Side) (c : NodesT ℕ) → 16 ≤ γ.ends → 16 ≤ a → is_structure ty ≡ true → Now γ (s + 16) w x → x.temps a ≡ z → (rest : World → Went) (go : World → Done) → Onward γ s x c rest go
       → SimF v γ (then_went Ended (asked CutOff nowhere w (first_cell (local_object w.store.locals k)) (λ p. then_went CutOff (stored S.s S.bound 0 ty nowhere p z w) rest)) go) (R (coded (lowered.received h ty k a) c) (mk w x))
-  structure_received γ ty z s k a w x c more_at_ends structure h0 at rest go f =
+  structure_received γ ty z s k a w x c more_at_ends sa structure h0 at rest go f =
       let size : ℕ = words h ty in
       let few : size < 2 ^ 32 = in_words (words_of h.layouts ty) in
       let first : Answer Cell = first_cell (local_object w.store.locals k) in
       let inside : Cell → Went = λ p. then_went CutOff (cells_set nowhere 1 S.bound size (Some z) p w) rest in
       let γ1 : Goal = record γ { from = γ.from + 16; ends = 0 } in
       let σ : Way γ1 = record { R = Done; stop = Ended; T = SimF v γ; stops = λ g u m q. kept_wider γ γ1 (omega (arith, more_at_ends)) g u m q } in
-      let c2 : NodesT ℕ = coded (part.copied size) c in
-      subst (λ q. SimF v γ (then_went Ended (asked CutOff nowhere w first (λ p. then_went CutOff (if q then cells_set nowhere (0 + 1) S.bound size (Some z) p w else asked CutOff nowhere (spend 0 w) (write w.store.objects p z) (λ os. Through (on_store (with_objects os) (spend 0 w)))) rest)) go) (R (if q then Do (MoveO part.from a) (Do (LocalO part.to k) c2) else Do (LocalO (part.param_at k) k) (Do (StoreO (part.param_at k) a) c)) (mk w x))) (sym structure)
-      (sets S (SimF v γ) γ (s + 8) w x part.from z (MoveO part.from a) (Do (LocalO part.to k) c2) (spare γ (s + 16) (s + 8 + 8) w x (omega arith) h0) (low_free γ part.from (omega arith)) (ap (λ q. to temporaries part.from (Ok q) (spent 8 (mk w x))) at) (then_went Ended (asked CutOff nowhere w first inside) go) (λ y hy ey rest1.
-      op S γ (way_w γ go) s nowhere w y part.to first (first_cell (local_object (w.store.locals ++ y.extra) k)) (LocalO part.to k) c2 hy (low_free γ part.to (omega arith)) (local_front w.store.locals y.extra k) refl inside (λ p u hu eu rest2.
+      let c2 : NodesT ℕ = coded (part.copied_on size a) c in
+      subst (λ q. SimF v γ (then_went Ended (asked CutOff nowhere w first (λ p. then_went CutOff (if q then cells_set nowhere (0 + 1) S.bound size (Some z) p w else asked CutOff nowhere (spend 0 w) (write w.store.objects p z) (λ os. Through (on_store (with_objects os) (spend 0 w)))) rest)) go) (R (if q then Do (LocalO part.to k) c2 else Do (LocalO (part.param_at k) k) (Do (StoreO (part.param_at k) a) c)) (mk w x))) (sym structure)
+      (op S γ (way_w γ go) (s + 8) nowhere w x part.to first (first_cell (local_object (w.store.locals ++ x.extra) k)) (LocalO part.to k) c2 (spare γ (s + 16) (s + 8 + 8) w x (omega arith) h0) (low_free γ part.to (omega arith)) (local_front w.store.locals x.extra k) refl inside (λ p u hu eu rest1.
       subst (λ d. SimF v γ d (R c2 (mk w u))) (sym (went_went Ended (cells_set nowhere 1 S.bound size (Some z) p w) rest go))
-      (copies S γ1 nowhere 1 (omega arith) σ s size (omega (arith, few)) z p w u c (record { stays = hu.stays; below = hu.below; cost = omega (arith, hu.cost) }) (rest2 part.from refl ∙ ey) eu (λ q. then_went Ended (rest q) go) (λ wb xb hb others.
+      (copies_on S γ1 nowhere 1 (omega arith) σ s size (omega (arith, few)) a z p w u c (record { stays = hu.stays; below = hu.below; cost = omega (arith, hu.cost) }) (omega (arith, sa)) (rest1 a (eqb_more a part.to (omega (arith, sa))) ∙ at) eu (λ q. then_went Ended (rest q) go) (λ wb xb hb others.
       f wb xb (record { stays = hb.stays; below = hb.below; cost = omega (arith, hb.cost) })
-      (others part.result_at (omega arith) ∙ rest2 part.result_at refl ∙ rest1 part.result_at refl, λ j le. others j (omega (arith, le)) ∙ rest2 j (eqb_more j part.to (omega (arith, le))) ∙ rest1 j (eqb_more j part.from (omega (arith, le)))))))))
+      (others part.result_at (omega arith) ∙ rest1 part.result_at refl, λ j le. others j (omega (arith, le)) ∙ rest1 j (eqb_more j part.to (omega (arith, le))))))))
 
   received_sim : (γ : Goal) (ty : Ty) (z : Cell) (s k a : ℕ) (w : World) (x : Side) (c : NodesT ℕ) → γ.first ≡ 0 → 16 ≤ γ.ends → 16 ≤ a → Now γ (s + 16) w x → x.temps a ≡ z → (rest : World → Went) (go : World → Done) → Onward γ s x c rest go
       → SimF v γ (then_went Ended (asked CutOff nowhere w (first_cell (local_object w.store.locals k)) (λ p. then_went CutOff (stored S.s S.bound 0 ty nowhere p z w) rest)) go) (R (coded (lowered.received h ty k a) c) (mk w x))
   received_sim γ ty z s k a w x c e more_at_ends sa h0 at rest go f = by (is_structure ty) refl
     where
       by : (b : Bool) → is_structure ty ≡ b → SimF v γ (then_went Ended (asked CutOff nowhere w (first_cell (local_object w.store.locals k)) (λ p. then_went CutOff (stored S.s S.bound 0 ty nowhere p z w) rest)) go) (R (coded (lowered.received h ty k a) c) (mk w x))
-      by true structure = structure_received γ ty z s k a w x c more_at_ends structure h0 at rest go f
+      by true structure = structure_received γ ty z s k a w x c more_at_ends sa structure h0 at rest go f
       by false scalar = cell_received γ ty z s k a w x c e scalar sa h0 at rest go f
 
   params_sim : (γ : Goal) (tys : List Ty) (vs : List Cell) (s0 k a : ℕ) (w : World) (x : Side) (c : NodesT ℕ) → γ.first ≡ 0 → 16 ≤ γ.ends → 16 ≤ a → Now γ (s0 + 16 * length vs) w x → Firsts a tys vs x.temps → (go : World → Done) → ((wa : World) (xa : Side) → Now γ s0 wa xa → xa.temps part.result_at ≡ x.temps part.result_at → SimF v γ (go wa) (R c (mk wa xa)))

@@ -1,5 +1,5 @@
 -- Every form of a statement: mid code follows it.
-use Rattle.std.proofs.Common.{◌++◌, ◌≡◌, ℕ, ◌+◌, ◌^◌, ◌<◌, ◌≤◌, Bool, true, false, List, [], ◌∷◌, length, Option, Some, None, Ok, refl, sym, ap, ◌∙◌, subst, arith, if◌then◌else◌}
+use Rattle.std.proofs.Common.{◌++◌, ◌≡◌, ℕ, ◌+◌, ◌^◌, ◌<◌, ◌≤◌, Bool, true, false, List, [], ◌∷◌, length, Option, Some, None, refl, sym, ap, ◌∙◌, subst, arith, if◌then◌else◌}
 use Rattle.c_types.specs.Types.{Ty}
 use Rattle.c_types.specs.Sizes.{words_of}
 use Rattle.c_types.specs.Typed.{TExprT, TStmtT, BlockZ, EmptyZ, VarsZ, DoZ, IfZ, WhileZ, DoWhileZ, ForZ, SwitchZ, ReturnZ, BreakZ, ContinueZ, MaybeZ, NoneZ, SomeZ, TStmtTs, NoZ, MoreZ, TArmTs, CaseB, DefaultB, StmtB, NoB, MoreB}
@@ -15,9 +15,8 @@ use Rattle.c_meaning.specs.Operators.{converted}
 use Rattle.c_meaning.specs.Cells.{cells_set, end_temporary, released}
 use Rattle.c_meaning.specs.Expressions.{value_of, evaluated}
 use Rattle.c_meaning.specs.Statements.{does, does_all, does_maybe, turn, returned, returned_as}
-use Rattle.mid_code.specs.Code.{MoveO, NodesT, Stop, Do, Choose, Return}
+use Rattle.mid_code.specs.Code.{NodesT, Stop, Choose, Return}
 use Rattle.mid_code.specs.Meaning.{Res, Next}
-use Rattle.mid_code.specs.States.{temporaries, to, spent}
 use Rattle.lower_trees.specs.Shape.{Shape, shape_in, words}
 use Rattle.lower_trees.specs.Flags.{is_flag}
 use Rattle.lower_trees.specs.Parts as part
@@ -32,9 +31,9 @@ use Rattle.mid_lower.proofs.Trees.{PlainValue, PlainStructure, PlainReturned, Pl
 use Rattle.mid_lower.proofs.Fits.{Site}
 use Rattle.mid_lower.proofs.Giving.{Giving, GivesNone, GivesWord, GivesAt, Given, giving}
 use Rattle.mid_lower.proofs.Room.{Room, room_at, room_first, room_second}
-use Rattle.mid_lower.proofs.Following.{base_of, Fit, Side, mk, Goal, Now, Way, paid, paid_now, less_now, kept_wider, low_free, above_free, eqb_less, M, M_grows, sets}
+use Rattle.mid_lower.proofs.Following.{base_of, Fit, Side, mk, Goal, Now, Way, paid, paid_now, less_now, kept_wider, above_free, eqb_less, M, M_grows}
 use Rattle.mid_lower.proofs.Words.{in_words}
-use Rattle.mid_lower.proofs.CellLoops.{copies}
+use Rattle.mid_lower.proofs.CellLoops.{copies_between}
 use Rattle.mid_lower.proofs.StructureValues.{anew, back_to}
 use Rattle.mid_lower.proofs.Taken.{Taken, taken_here, taken_on, taken_left}
 use Rattle.mid_lower.proofs.StructureUses.{value_then, kept_structure, same_code}
@@ -93,28 +92,24 @@ module _ (S : Site) (before : Earlier S) (r : Cell) (ty : Ty) (own : ℕ) where
       subst (λ t. SimD v γ b j k (asked Ended (span_of e) wa (converted t d) (λ z. returned_as S.s S.bound t r z wa)) (R (coded (part.converted ty (is_flag e) n) c1) (mk wa xa))) (sym (ap (λ fn. result_of S.s fn) ha.stays.same_function ∙ home.result))
       (converts S γ σ (span_of e) wa 44 xa ty (is_flag e) n d c1 ha (above_free γ n le) at flag (λ z. returned_as S.s S.bound ty r z wa)
       (λ z xb hb eb rest.
-      subst (λ q. SimD v γ b j k (if q then then_went Ended (cells_set nowhere 1 S.bound (words h ty) (Some z) r wa) (λ y. Returns (Some r) (on_store (released ty z) y)) else Returns (Some z) wa) (R (if q then Do (MoveO part.from n) (Do (MoveO part.to part.result_at) (coded (part.copied (words h ty)) (Return no_place c))) else Return (Some n) c) (mk wa xb))) (sym scalar)
+      subst (λ q. SimD v γ b j k (if q then then_went Ended (cells_set nowhere 1 S.bound (words h ty) (Some z) r wa) (λ y. Returns (Some r) (on_store (released ty z) y)) else Returns (Some z) wa) (R (if q then coded (part.copied_between (words h ty) n part.result_at) (Return no_place c) else Return (Some n) c) (mk wa xb))) (sym scalar)
       (record (paid xb) { given = xb.temps n }, refl, record { under = hb.stays.fit.under; later = hb.stays.later; cost = omega (arith, hb.cost) }, subst (λ g. Given g z (record (paid xb) { given = xb.temps n })) (sym gives_word) eb))))
 
   -- the structure in n is stored in the place of the result, and ends
-  structure_returned : (γ : Goal) (b : ℕ) (j : Jump) (k : Mid → Res Mid) (n hi o i : ℕ) (c : NodesT ℕ) (wa : World) (xa : Side) → is_structure ty ≡ true → Taken γ 44 hi o wa xa → xa.temps n ≡ Ptr o i → xa.temps part.result_at ≡ r → SimD v γ b j k (returned_as S.s S.bound ty r (Ptr o i) wa) (R (coded (low.returned h ty n) c) (mk wa xa))
-  structure_returned γ b j k n hi o i c wa xa structure hx at there =
+  structure_returned : (γ : Goal) (b : ℕ) (j : Jump) (k : Mid → Res Mid) (n hi o i : ℕ) (c : NodesT ℕ) (wa : World) (xa : Side) → part.result_at < n → is_structure ty ≡ true → Taken γ 44 hi o wa xa → xa.temps n ≡ Ptr o i → xa.temps part.result_at ≡ r → SimD v γ b j k (returned_as S.s S.bound ty r (Ptr o i) wa) (R (coded (low.returned h ty n) c) (mk wa xa))
+  structure_returned γ b j k n hi o i c wa xa sn structure hx at there =
       let size : ℕ = words h ty in
       let few : size < 2 ^ 32 = in_words (words_of h.layouts ty) in
       let γ1 : Goal = anew γ wa xa in
       let T : Done → Res Mid → Type 0 = SimD v γ b j k in
       let σ1 : Way γ1 = record { R = Done; stop = Ended; T = T; stops = λ f u q a. kept_wider γ γ1 (omega arith) f u q a } in
       let after : World → Done = λ u. Returns (Some r) (on_store (end_temporary (Ptr o i)) u) in
-      let d : Done = then_went Ended (cells_set nowhere 1 S.bound size (Some (Ptr o i)) r wa) after in
       let c2 : NodesT ℕ = Return no_place c in
-      let c1 : NodesT ℕ = coded (part.copied size) c2 in
       let gives_place : v ≡ GivesAt r = ap (λ q. if q then GivesAt r else if is_void ty then GivesNone else GivesWord) structure in
-      subst (λ q. T (if q then then_went Ended (cells_set nowhere 1 S.bound size (Some (Ptr o i)) r wa) (λ u. Returns (Some r) (on_store (λ t. if q then end_temporary (Ptr o i) t else t) u)) else Returns (Some (Ptr o i)) wa) (R (if q then Do (MoveO part.from n) (Do (MoveO part.to part.result_at) c1) else Return (Some n) c) (mk wa xa))) (sym structure)
-      (sets S T γ1 36 wa xa part.from (Ptr o i) (MoveO part.from n) (Do (MoveO part.to part.result_at) c1) (taken_here γ 44 hi (o ∷ []) wa xa hx) (low_free γ1 part.from (omega arith)) (ap (λ z. to temporaries part.from (Ok z) (spent 8 (mk wa xa))) at) d (λ y hy ey rest.
-      sets S T γ1 28 wa y part.to r (MoveO part.to part.result_at) c1 hy (low_free γ1 part.to (omega arith)) (ap (λ z. to temporaries part.to (Ok z) (spent 8 (mk wa y))) (rest part.result_at refl ∙ there)) d (λ z hz ez rest2.
-      copies S γ1 nowhere 1 (omega arith) σ1 12 size (omega (arith, few)) (Ptr o i) r wa z c2 hz (rest2 part.from refl ∙ ey) ez after (λ u y2 hu others.
+      subst (λ q. T (if q then then_went Ended (cells_set nowhere 1 S.bound size (Some (Ptr o i)) r wa) (λ u. Returns (Some r) (on_store (λ t. if q then end_temporary (Ptr o i) t else t) u)) else Returns (Some (Ptr o i)) wa) (R (if q then coded (part.copied_between size n part.result_at) c2 else Return (Some n) c) (mk wa xa))) (sym structure)
+      (copies_between S γ1 nowhere 1 (omega arith) σ1 12 size (omega (arith, few)) n part.result_at (Ptr o i) r wa xa c2 (taken_here γ 44 hi (o ∷ []) wa xa hx) (omega (arith, sn)) (omega arith) at there after (λ u y2 hu others.
       let hl = taken_left γ 28 hi o i u y2 (taken_on γ 44 28 hi (o ∷ []) wa xa u y2 hx hu) in
-      (record (paid (back_to γ.base.floor y2)) { given = none_given }, refl, record { under = hl.stays.fit.under; later = hl.stays.later; cost = omega (arith, hl.cost) }, subst (λ g. Given g r (record (paid (back_to γ.base.floor y2)) { given = none_given })) (sym gives_place) refl)))))
+      (record (paid (back_to γ.base.floor y2)) { given = none_given }, refl, record { under = hl.stays.fit.under; later = hl.stays.later; cost = omega (arith, hl.cost) }, subst (λ g. Given g r (record (paid (back_to γ.base.floor y2)) { given = none_given })) (sym gives_place) refl)))
 
   returns_structure : (γ : Goal) (b : ℕ) (j : Jump) (k : Mid → Res Mid) (e : TExprT) → PlainStructure h e → is_structure (type_of e) ≡ true → is_structure ty ≡ true → (n m : ℕ) (c : NodesT ℕ) (w : World) (x : Side) → part.result_at < n → γ.first ≤ n → AtPlace ty r x.temps → HomeOf S.s S.code S.frames ty γ.base.function own → Room S γ.base m (value_sizes h e) → Now γ 24 w x → SimD v γ b j k (returned S.s S.bound r e (evaluated S.s S.bound S.prev e w)) (R (coded (low_value h e n (n + 1) m) (coded (part.converted ty (is_flag e) n) (coded (low.returned h ty n) c))) (mk w x))
   returns_structure γ b j k e sc given structure n m c w x sn le place home room h0 =
@@ -129,7 +124,7 @@ module _ (S : Site) (before : Earlier S) (r : Cell) (ty : Ty) (own : ℕ) where
       subst (λ t. SimD v γ b j k (asked Ended (span_of e) wa (converted t (Ptr o i)) (λ z. returned_as S.s S.bound t r z wa)) (R cc (mk wa xa))) (sym (ap (λ fn. result_of S.s fn) hx.same_function ∙ home.result))
       (subst (λ q. SimD v γ b j k (asked Ended (span_of e) wa q (λ z. returned_as S.s S.bound ty r z wa)) (R cc (mk wa xa))) (sym (kept_structure S ty (Ptr o i) structure))
       (subst (λ q. SimD v γ b j k (returned_as S.s S.bound ty r (Ptr o i) wa) (R q (mk wa xa))) (sym (same_code S ty (is_flag e) n c1 structure))
-      (structure_returned γ b j k n hi o i c wa xa structure hx at (below part.result_at (omega arith) (omega (arith, sn)) (eqb_less part.result_at n sn) ∙ place structure)))))
+      (structure_returned γ b j k n hi o i c wa xa sn structure hx at (below part.result_at (omega arith) (omega (arith, sn)) (eqb_less part.result_at n sn) ∙ place structure)))))
 
   returns_sim : (γ : Goal) (b : ℕ) (j : Jump) (k : Mid → Res Mid) (e : TExprT) → PlainReturned h ty e → (n m : ℕ) (c : NodesT ℕ) (w : World) (x : Side) → part.result_at < n → γ.first ≤ n → AtPlace ty r x.temps → HomeOf S.s S.code S.frames ty γ.base.function own → Room S γ.base m (value_sizes h e) → Now γ 24 w x → SimD v γ b j k (returned S.s S.bound r e (evaluated S.s S.bound S.prev e w)) (R (coded (low_value h e n (n + 1) m) (coded (part.converted ty (is_flag e) n) (coded (low.returned h ty n) c))) (mk w x))
   returns_sim γ b j k e sc n m c w x sn le place home room h0 = by (is_structure ty) refl

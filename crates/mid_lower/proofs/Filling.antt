@@ -17,7 +17,7 @@ use Rattle.c_types.specs.Parts.{part_type}
 use Rattle.c_meaning.specs.Operators.{converted}
 use Rattle.c_meaning.specs.Cells.{cells_set, stored, released, end_temporary}
 use Rattle.c_meaning.specs.Initialisers.{filled, all_filled, object_of, variable_filled, variables_filled}
-use Rattle.mid_code.specs.Code.{MoveO, GlobalO, LocalO, LiteralO, NodesT, Do}
+use Rattle.mid_code.specs.Code.{GlobalO, LocalO, LiteralO, NodesT}
 use Rattle.mid_code.specs.Meaning.{Res}
 use Rattle.mid_code.specs.States.{temporaries, to, spent}
 use Rattle.lower_trees.specs.Pieces.{coded}
@@ -62,7 +62,7 @@ module _ (S : Site) (bodies : BodiesFollow S) (γ : Goal) (skips : 2 ≤ γ.skip
       (λ d u. asked CutOff nowhere u (converted ty d) (λ z. then_went CutOff (stored S.s S.bound 1 ty nowhere (part_of o offset) z u) (λ v. Through (on_store (released ty z) v)))) (expr_sim S bodies e fs.0)
       (λ d wa xa flag ha at below. converts S γ σ' nowhere wa (s0 + 84) xa ty (is_flag e) part.item d c1 (spare γ (s0 + 64 + 28) (s0 + 84 + 8) wa xa (omega arith) ha) (low_free γ part.item (omega (arith, skips))) at flag (λ z. then_went CutOff (stored S.s S.bound 1 ty nowhere (part_of o offset) z wa) (λ v. Through (on_store (released ty z) v)))
       (λ z xb hb eb rest.
-      subst (λ q. σ.T (then_went σ.stop (then_went CutOff (if q then cells_set nowhere (1 + 1) S.bound (words h ty) (Some z) (part_of o offset) wa else asked CutOff nowhere (spend 1 wa) (write wa.store.objects (part_of o offset) z) (λ os. Through (on_store (with_objects os) (spend 1 wa)))) (λ v. Through (on_store (λ t. if q then end_temporary z t else t) v))) go) (R (if q then Do (MoveO part.from part.item) (coded (low.part_at p offset) (coded (part.copied (words h ty)) c)) else coded (low.cell_filled p offset) c) (mk wa xb))) (sym fs.2)
+      subst (λ q. σ.T (then_went σ.stop (then_went CutOff (if q then cells_set nowhere (1 + 1) S.bound (words h ty) (Some z) (part_of o offset) wa else asked CutOff nowhere (spend 1 wa) (write wa.store.objects (part_of o offset) z) (λ os. Through (on_store (with_objects os) (spend 1 wa)))) (λ v. Through (on_store (λ t. if q then end_temporary z t else t) v))) go) (R (if q then coded (low.part_at p offset) (coded (part.copied_on (words h ty) part.item) c) else coded (low.cell_filled p offset) c) (mk wa xb))) (sym fs.2)
       (subst (λ d2. σ.T d2 (R (coded (low.cell_filled p offset) c) (mk wa xb))) (sym (went_went σ.stop (asked CutOff nowhere (spend 1 wa) (write wa.store.objects (part_of o offset) z) (λ os. Through (on_store (with_objects os) (spend 1 wa)))) (λ v. Through v) go ∙ went_asked σ.stop nowhere (spend 1 wa) (write wa.store.objects (part_of o offset) z) (λ os. on_store (with_objects os) (spend 1 wa)) go))
       (cell_sim S bodies γ skips σ s0 o p offset (spend 1 wa) xb z c (spare γ (s0 + 84 + 64) (s0 + 24) (spend 1 wa) xb (omega arith) (worked S bodies γ skips (s0 + 84) wa xb hb)) le (rest p (eqb_more p part.item (omega (arith, le))) ∙ below p (omega (arith, le)) lt (eqb_more p part.item (omega (arith, le))) ∙ ep) eb go
       (λ os y hy alike. f (on_store (with_objects os) (spend 1 wa)) y hy (λ j g l. alike j (omega (arith, g)) ∙ rest j (eqb_more j part.item (omega (arith, g))) ∙ below j (omega (arith, g)) l (eqb_more j part.item (omega (arith, g)))))))))

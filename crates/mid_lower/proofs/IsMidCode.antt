@@ -29,12 +29,12 @@ use Rattle.mid_code.specs.Invariants as mid
 use Rattle.mid_code.specs.Invariants.{IsMid, IsTemporary, AllOf, DifferFrom, AreDifferent, CallsNone, parameter_count}
 use Rattle.lower_trees.specs.Shape.{Shape, shape, words, literal_words}
 use Rattle.lower_trees.specs.Pieces.{coded}
-use Rattle.lower_trees.specs.Parts.{from, to, result_at, param_at, first_param}
+use Rattle.lower_trees.specs.Parts.{to, result_at, param_at, first_param}
 use Rattle.lower_trees.specs.Statements.{ToEnd, low_stmts}
 use Rattle.lower_trees.specs.Lowered.{args_from, with_result, received, all_received, first_of, lowered, low_function, low_start}
 use Rattle.lower_trees.specs.Counts.{stmts_temps, vars_temps, one_size, stmts_sizes, vars_sizes}
 use Rattle.mid_lower.proofs.ProgramsListed.{inits_nodes}
-use Rattle.mid_lower.proofs.Kept.{Site, Good, Keeps, good_stop, both, alone, none, either_kept, block_kept, fixed, k_move, k_local, k_store, words_small, copied_kept, made_kept}
+use Rattle.mid_lower.proofs.Kept.{Site, Good, Keeps, good_stop, both, alone, none, either_kept, block_kept, fixed, k_local, k_store, words_small, copied_on_kept, made_kept}
 use Rattle.mid_lower.proofs.KeptExpressions.{Linked}
 use Rattle.mid_lower.proofs.KeptStatements.{objects_there, vars_kept, stmts_kept}
 use Rattle.mid_lower.proofs.Counted.{stmts_few, stmts_sizes_few}
@@ -109,7 +109,7 @@ param_small s k = grind (arith, nat_tests, s.wide)
 
 received_kept : {ls : List Bool} (s : Site) (h : Shape) (ty : Ty) (k a : ℕ) → k < s.locals → a < s.temps → Keeps s ls (coded (received h ty k a))
 received_kept s h ty k a lk la =
-    either_kept (is_structure ty) (both (k_move from a (fixed s 3 (omega arith)) la) (both (k_local to k (fixed s 4 (omega arith)) lk) (copied_kept s (words h ty) (words_small h ty))))
+    either_kept (is_structure ty) (both (k_local to k (fixed s 4 (omega arith)) lk) (copied_on_kept s (words h ty) a (words_small h ty) la))
     (both (k_local (param_at k) k (param_small s k) lk) (k_store (param_at k) a (param_small s k) la))
 
 all_received_kept : {ls : List Bool} (s : Site) (h : Shape) (tys : List Ty) (k a : ℕ) → k + length tys ≤ s.locals → a + length tys ≤ s.temps → Keeps s ls (coded (all_received h tys k a))

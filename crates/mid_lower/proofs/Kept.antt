@@ -13,7 +13,7 @@ use Rattle.mid_code.specs.Code.{OpT, ConstO, NullO, MoveO, OneO, TwoO, LocalO, S
 use Rattle.mid_code.specs.Invariants.{IsOne, IsTest, IsOp, IsCall, IsLoop, AreNodes, AllOf, Names}
 use Rattle.lower_trees.specs.Shape.{Shape, words}
 use Rattle.lower_trees.specs.Pieces.{Nodes, coded}
-use Rattle.lower_trees.specs.Parts.{count, one, cell, from, to, other, copy_turn, zero_turn, copied, zeroed, moved_by, structure_read, as_flag, converted, stored, with_word, stepped, with_pointer, operated_on, operated, one_more, one_less, tested_as, negated_as, made}
+use Rattle.lower_trees.specs.Parts.{count, one, cell, from, to, other, ask_turn, asked, word_copied, pair_copied, copied_between, copied_on, local_filled, copy_turn, zero_turn, copied, zeroed, moved_by, structure_read, as_flag, converted, stored, with_word, stepped, with_pointer, operated_on, operated, one_more, one_less, tested_as, negated_as, made}
 
 -- a function of a program: its locals and its temporaries, which are sixteen at least
 pub record Site : Type 0 where
@@ -135,6 +135,37 @@ copied_kept s zero small = none
 copied_kept {ls} s (suc left) small =
     both (k_const count (suc left) (fixed s 0 (omega arith)) small) (both (k_const one 1 (fixed s 1 (omega arith)) (omega arith)) (loop_kept (copy_turn_good s ls)))
 
+ask_turn_good : (s : Site) (ls : List Bool) → Good s (true ∷ ls) (coded ask_turn Stop)
+ask_turn_good s ls =
+    let f = λ (k : ℕ) (lt : k < 16). fixed s k lt in
+    alone (choose_kept count (f 0 (omega arith)) (alone (both (k_const count 0 (f 0 (omega arith)) (omega arith)) (again_kept {s = s} {ls = true ∷ ls} 0 refl))) (good_stop s (true ∷ ls)))
+
+asked_kept : {ls : List Bool} (s : Site) → Keeps s ls (coded asked)
+asked_kept {ls} s = both (k_const count 1 (fixed s 0 (omega arith)) (omega arith)) (loop_kept (ask_turn_good s ls))
+
+word_kept : {ls : List Bool} (s : Site) (p q : ℕ) → p < s.temps → q < s.temps → Keeps s ls (coded (word_copied p q))
+word_kept s p q lp lq = both (k_load cell p (fixed s 2 (omega arith)) lp) (k_store q cell lq (fixed s 2 (omega arith)))
+
+pair_kept : {ls : List Bool} (s : Site) (p q : ℕ) → p < s.temps → q < s.temps → Keeps s ls (coded (pair_copied p q))
+pair_kept s p q lp lq =
+    let f = λ (k : ℕ) (lt : k < 16). fixed s k lt in
+    both (word_kept s p q lp lq) (both (asked_kept s) (both (k_const one 1 (f 1 (omega arith)) (omega arith))
+    (both (k_step from p one (f 3 (omega arith)) lp (f 1 (omega arith))) (both (k_load cell from (f 2 (omega arith)) (f 3 (omega arith)))
+    (both (k_step to q one (f 4 (omega arith)) lq (f 1 (omega arith))) (k_store to cell (f 4 (omega arith)) (f 2 (omega arith))))))))
+
+pub between_kept : {ls : List Bool} (s : Site) (size p q : ℕ) → size < 2 ^ 32 → p < s.temps → q < s.temps → Keeps s ls (coded (copied_between size p q))
+between_kept s zero p q small lp lq = none
+between_kept s (suc zero) p q small lp lq = word_kept s p q lp lq
+between_kept s (suc (suc zero)) p q small lp lq = pair_kept s p q lp lq
+between_kept s (suc (suc (suc left))) p q small lp lq =
+    both (k_move from p (fixed s 3 (omega arith)) lp) (both (k_move to q (fixed s 4 (omega arith)) lq) (copied_kept s (suc (suc (suc left))) small))
+
+pub copied_on_kept : {ls : List Bool} (s : Site) (size p : ℕ) → size < 2 ^ 32 → p < s.temps → Keeps s ls (coded (copied_on size p))
+copied_on_kept s zero p small lp = none
+copied_on_kept s (suc zero) p small lp = word_kept s p to lp (fixed s 4 (omega arith))
+copied_on_kept s (suc (suc zero)) p small lp = pair_kept s p to lp (fixed s 4 (omega arith))
+copied_on_kept s (suc (suc (suc left))) p small lp = both (k_move from p (fixed s 3 (omega arith)) lp) (copied_kept s (suc (suc (suc left))) small)
+
 pub zeroed_kept : {ls : List Bool} (s : Site) (size : ℕ) → size < 2 ^ 32 → Keeps s ls (coded (zeroed size))
 zeroed_kept s zero small = none
 zeroed_kept {ls} s (suc left) small =
@@ -149,9 +180,20 @@ words_small h ty = mod-lt _ (omega arith)
 pub moved_by_kept : {s : Site} {ls : List Bool} (t p offset : ℕ) → t < s.temps → p < s.temps → offset < 2 ^ 32 → Keeps s ls (coded (moved_by t p offset))
 moved_by_kept t p offset lt lp small = both (k_const t offset lt small) (k_step t p t lt lp lt)
 
+local_kept : {ls : List Bool} (s : Site) (size k t : ℕ) → size < 2 ^ 32 → k < s.locals → t < s.temps → Keeps s ls (coded (local_filled size k t))
+local_kept s zero k t small lk lt = k_local t k lt lk
+local_kept s (suc zero) k t small lk lt = both (k_load cell t (fixed s 2 (omega arith)) lt) (both (k_local t k lt lk) (k_store t cell lt (fixed s 2 (omega arith))))
+local_kept s (suc (suc zero)) k t small lk lt =
+    let f = λ (k : ℕ) (lt : k < 16). fixed s k lt in
+    both (k_load cell t (f 2 (omega arith)) lt) (both (k_const one 1 (f 1 (omega arith)) (omega arith)) (both (k_step from t one (f 3 (omega arith)) lt (f 1 (omega arith)))
+    (both (k_local t k lt lk) (both (k_store t cell lt (f 2 (omega arith))) (both (asked_kept s) (both (k_load cell from (f 2 (omega arith)) (f 3 (omega arith)))
+    (both (k_step to t one (f 4 (omega arith)) lt (f 1 (omega arith))) (k_store to cell (f 4 (omega arith)) (f 2 (omega arith))))))))))
+local_kept s (suc (suc (suc left))) k t small lk lt =
+    both (k_move from t (fixed s 3 (omega arith)) lt) (both (k_local to k (fixed s 4 (omega arith)) lk) (both (copied_kept s (suc (suc (suc left))) small) (k_local t k lt lk)))
+
 pub structure_read_kept : {ls : List Bool} (s : Site) (size k t : ℕ) → size < 2 ^ 32 → k < s.locals → t < s.temps → Keeps s ls (coded (structure_read size k t))
 structure_read_kept s size k t small lk lt =
-    both (k_fresh k lk) (both (k_move from t (fixed s 3 (omega arith)) lt) (both (k_local to k (fixed s 4 (omega arith)) lk) (both (copied_kept s size small) (k_local t k lt lk))))
+    both (k_fresh k lk) (local_kept s size k t small lk lt)
 
 pub as_flag_kept : {s : Site} {ls : List Bool} (known : Bool) (t : ℕ) → t < s.temps → Keeps s ls (coded (as_flag known t))
 as_flag_kept true t lt = none
@@ -169,7 +211,7 @@ converted_kept (ArrayY of len) known t lt = none
 
 pub stored_kept : {ls : List Bool} (s : Site) (h : Shape) (ty : Ty) (p a : ℕ) → p < s.temps → a < s.temps → Keeps s ls (coded (stored h ty p a))
 stored_kept s h ty p a lp la =
-    either_kept (is_structure ty) (both (k_move from a (fixed s 3 (omega arith)) la) (both (k_move to p (fixed s 4 (omega arith)) lp) (copied_kept s (words h ty) (words_small h ty)))) (k_store p a lp la)
+    either_kept (is_structure ty) (between_kept s (words h ty) a p (words_small h ty) la lp) (k_store p a lp la)
 
 -- ---- operators
 

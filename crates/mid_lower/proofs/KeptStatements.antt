@@ -22,7 +22,7 @@ use Rattle.lower_trees.specs.Expressions.{second, beyond}
 use Rattle.lower_trees.specs.Initialisers.{part_at, cell_filled, part_filled, part_zeroed, low_text, low_rest, low_init, low_inits, address_of, object_to, low_vars}
 use Rattle.lower_trees.specs.Statements.{Jump, ToEnd, ToTurn, further, jump, low_chosen, low_dropped, labels_before_default, low_match, returned, low_stmt, low_other, low_stmts, low_arms, low_group, turn_of}
 use Rattle.lower_trees.specs.Counts.{init_temps, inits_temps, behind_address, vars_temps, maybe_temps, stmt_temps, other_temps, stmts_temps, arms_temps, value_sizes, init_sizes, inits_sizes, vars_sizes, maybe_sizes, stmt_sizes, other_sizes, stmts_sizes, arms_sizes}
-use Rattle.mid_lower.proofs.Kept.{Site, Good, Keeps, good_stop, both, alone, none, either_kept, op_kept, choose_kept, block_kept, loop_kept, leave_kept, again_kept, return_kept, fixed, k_const, k_two, k_move, k_local, k_store, words_small, moved_by_kept, copied_kept, zeroed_kept, converted_kept, made_kept}
+use Rattle.mid_lower.proofs.Kept.{Site, Good, Keeps, good_stop, both, alone, none, either_kept, op_kept, choose_kept, block_kept, loop_kept, leave_kept, again_kept, return_kept, fixed, k_const, k_two, k_move, k_local, k_store, words_small, moved_by_kept, copied_kept, between_kept, copied_on_kept, zeroed_kept, converted_kept, made_kept}
 use Rattle.mid_lower.proofs.KeptExpressions.{Linked, there, same_option, low_value_kept, low_test_kept}
 
 -- ---- initialisers
@@ -37,7 +37,7 @@ cell_filled_kept s p (suc offset) lp small = both (moved_by_kept to p (suc offse
 
 part_filled_kept : {ls : List Bool} (s : Site) (h : Shape) (ty : Ty) (p offset : ℕ) → p < s.temps → offset < 2 ^ 32 → Keeps s ls (coded (part_filled h ty p offset))
 part_filled_kept s h ty p offset lp small =
-    either_kept (is_structure ty) (both (k_move from item (fixed s 3 (omega arith)) (fixed s 6 (omega arith))) (both (part_at_kept s p offset lp small) (copied_kept s (words h ty) (words_small h ty))))
+    either_kept (is_structure ty) (both (part_at_kept s p offset lp small) (copied_on_kept s (words h ty) item (words_small h ty) (fixed s 6 (omega arith))))
     (cell_filled_kept s p offset lp small)
 
 part_zeroed_kept : {ls : List Bool} (s : Site) (p offset size : ℕ) → p < s.temps → offset < 2 ^ 32 → size < 2 ^ 32 → Keeps s ls (coded (part_zeroed p offset size))
@@ -161,8 +161,7 @@ match_good s ls t i d (MoreB (StmtB a) rest) w lt few small = match_good s ls t 
 
 returned_kept : {ls : List Bool} (s : Site) (h : Shape) (ty : Ty) (t : ℕ) → t < s.temps → Keeps s ls (coded (returned h ty t))
 returned_kept s h ty t lt =
-    either_kept (is_structure ty) (both (k_move from t (fixed s 3 (omega arith)) lt) (both (k_move to result_at (fixed s 4 (omega arith)) (fixed s 8 (omega arith)))
-    (both (copied_kept s (words h ty) (words_small h ty)) (return_kept None tt)))) (return_kept (Some t) (lt, tt))
+    either_kept (is_structure ty) (both (between_kept s (words h ty) t result_at (words_small h ty) lt (fixed s 8 (omega arith))) (return_kept None tt)) (return_kept (Some t) (lt, tt))
 
 chosen_good : (s : Site) (z : Scene) (h : Shape) → Linked s z h → (test : Option TExprT) → MayTest z test → MaybeInWords test → (ls : List Bool) (n m : ℕ) (c : Piece) → n + maybe_temps test ≤ s.temps → m + length (maybe_sizes h test) ≤ s.locals
     → Good s ls (coded c Stop) → Good s ls (coded (low_chosen h test n m c) Stop)

@@ -11,12 +11,12 @@ use Rattle.c_types.specs.Typed.{TExprT, Typed, NumberK, NullK, LiteralK, GlobalK
 use Rattle.c_exprs.specs.Nodes.{is_place}
 use Rattle.c_meaning.specs.Kinds.{type_of}
 use Rattle.c_types.specs.Kinds.{is_structure, decayed, pointed, is_pointer}
-use Rattle.mid_code.specs.Code.{Stop, Do, LoadO}
+use Rattle.mid_code.specs.Code.{Stop, Do, LoadO, LocalO}
 use Rattle.mid_code.specs.Calls.{nesting}
 use Rattle.lower_trees.specs.Shape.{Shape, words, params_of, result_of}
 use Rattle.lower_trees.specs.Flags.{is_flag, tests_flag}
 use Rattle.lower_trees.specs.Pieces.{Nodes, coded}
-use Rattle.lower_trees.specs.Parts.{copy_turn, zero_turn, copied, zeroed, as_flag, converted, stored, with_word, stepped, with_pointer, operated_on, operated, one_more, one_less, tested_as, negated_as}
+use Rattle.lower_trees.specs.Parts.{ask_turn, copy_turn, zero_turn, copied, copied_between, copied_on, local_filled, zeroed, as_flag, converted, stored, with_word, stepped, with_pointer, operated_on, operated, one_more, one_less, tested_as, negated_as}
 use Rattle.lower_trees.specs.Expressions.{Low, read, value_of, value, test, unary, second, beyond, size_at, binary, behind_place, assign, step_made, stepped_to, step_taken, index, member_of, called, spots, converted_to, later_types, low, low_args, low_value, low_test, counts_up}
 use Rattle.mid_lower.specs.Levels.{expression_levels, all_levels}
 
@@ -40,6 +40,27 @@ zero_turn_nests = omega arith
 pub copied_nests : (size : ℕ) (c : Nodes) (k : ℕ) → 2 ≤ k → nesting c ≤ k → nesting (coded (copied size) c) ≤ k
 copied_nests zero c k e h = h
 copied_nests (suc left) c k e h = max_within (suc (nesting (coded copy_turn Stop))) (nesting c) k (omega (arith, copy_turn_nests, e)) h
+
+pub ask_turn_nests : nesting (coded ask_turn Stop) ≤ 1
+ask_turn_nests = omega arith
+
+pub between_nests : (size p q : ℕ) (c : Nodes) (k : ℕ) → 2 ≤ k → nesting c ≤ k → nesting (coded (copied_between size p q) c) ≤ k
+between_nests zero p q c k e h = h
+between_nests (suc zero) p q c k e h = h
+between_nests (suc (suc zero)) p q c k e h = max_within (suc (nesting (coded ask_turn Stop))) (nesting c) k (omega (arith, ask_turn_nests, e)) h
+between_nests (suc (suc (suc left))) p q c k e h = copied_nests (suc (suc (suc left))) c k e h
+
+pub copied_on_nests : (size p : ℕ) (c : Nodes) (k : ℕ) → 2 ≤ k → nesting c ≤ k → nesting (coded (copied_on size p) c) ≤ k
+copied_on_nests zero p c k e h = h
+copied_on_nests (suc zero) p c k e h = h
+copied_on_nests (suc (suc zero)) p c k e h = max_within (suc (nesting (coded ask_turn Stop))) (nesting c) k (omega (arith, ask_turn_nests, e)) h
+copied_on_nests (suc (suc (suc left))) p c k e h = copied_nests (suc (suc (suc left))) c k e h
+
+local_nests : (size local t : ℕ) (c : Nodes) (k : ℕ) → 2 ≤ k → nesting c ≤ k → nesting (coded (local_filled size local t) c) ≤ k
+local_nests zero local t c k e h = h
+local_nests (suc zero) local t c k e h = h
+local_nests (suc (suc zero)) local t c k e h = max_within (suc (nesting (coded ask_turn Stop))) (nesting c) k (omega (arith, ask_turn_nests, e)) h
+local_nests (suc (suc (suc left))) local t c k e h = copied_nests (suc (suc (suc left))) (Do (LocalO t local) c) k e h
 
 pub zeroed_nests : (size : ℕ) (c : Nodes) (k : ℕ) → 2 ≤ k → nesting c ≤ k → nesting (coded (zeroed size) c) ≤ k
 zeroed_nests zero c k e h = h
@@ -143,7 +164,7 @@ negated_nests (PointerY of) t c = refl
 negated_nests (ArrayY of n) t c = refl
 
 stored_nests : (h : Shape) (ty : Ty) (p a : ℕ) (c : Nodes) (k : ℕ) → 2 ≤ k → nesting c ≤ k → nesting (coded (stored h ty p a) c) ≤ k
-stored_nests h ty p a c k e l = either_nests (is_structure ty) _ _ k (copied_nests (words h ty) c k e l) l
+stored_nests h ty p a c k e l = either_nests (is_structure ty) _ _ k (between_nests (words h ty) a p c k e l) l
 
 -- ---- values
 
@@ -158,8 +179,8 @@ read_nests h IntY local part d e p t n m c k le l = p n (n + 1) m (Do (LoadO t n
 read_nests h BoolY local part d e p t n m c k le l = p n (n + 1) m (Do (LoadO t n) c) k le l
 read_nests h (EnumY number) local part d e p t n m c k le l = p n (n + 1) m (Do (LoadO t n) c) k le l
 read_nests h (PointerY of) local part d e p t n m c k le l = p n (n + 1) m (Do (LoadO t n) c) k le l
-read_nests h (StructY number) local part d e p t n m c k le l = p t n m _ k le (copied_nests (words h (StructY number)) _ k (omega (arith, e, le)) l)
-read_nests h (UnionY number) local part d e p t n m c k le l = p t n m _ k le (copied_nests (words h (UnionY number)) _ k (omega (arith, e, le)) l)
+read_nests h (StructY number) local part d e p t n m c k le l = p t n m _ k le (local_nests (words h (StructY number)) local t c k (omega (arith, e, le)) l)
+read_nests h (UnionY number) local part d e p t n m c k le l = p t n m _ k le (local_nests (words h (UnionY number)) local t c k (omega (arith, e, le)) l)
 
 value_of_nests : (h : Shape) (place : Bool) (ty : Ty) (local : ℕ) (part : Low) (d : ℕ) → 2 ≤ d → Nests part d → Nests (value_of h place ty local part) d
 value_of_nests h true ty local part d e p t n m c k le l = read_nests h ty local part d e p t n m c k le l

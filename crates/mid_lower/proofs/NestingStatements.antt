@@ -11,14 +11,14 @@ use Rattle.mid_code.specs.Calls.{nesting}
 use Rattle.lower_trees.specs.Shape.{Shape, shape, words, literal_words}
 use Rattle.lower_trees.specs.Flags.{is_flag}
 use Rattle.lower_trees.specs.Pieces.{Nodes, coded, Piece}
-use Rattle.lower_trees.specs.Parts.{copied, zeroed, item, made}
+use Rattle.lower_trees.specs.Parts.{copied, copied_on, zeroed, item, result_at, made}
 use Rattle.lower_trees.specs.Expressions.{second, beyond}
 use Rattle.lower_trees.specs.Initialisers.{part_at, cell_filled, part_filled, part_zeroed, low_text, low_rest, low_init, low_inits, address_of, object_to, low_vars}
 use Rattle.lower_trees.specs.Statements.{Jump, ToEnd, ToTurn, further, jump, low_chosen, low_dropped, turns, labels_before_default, low_match, returned, low_stmt, low_other, low_stmts, low_arms, low_group, turn_of}
 use Rattle.lower_trees.specs.Lowered.{received, all_received, first_of, low_function, low_start}
 use Rattle.lower_trees.specs.Counts.{init_temps, init_sizes, behind_address, maybe_temps, maybe_sizes, stmt_temps, stmt_sizes, other_temps, other_sizes}
 use Rattle.mid_lower.specs.Levels.{expression_levels, maybe_levels, init_levels, inits_levels, variables_levels, statement_levels, other_levels, statements_levels, arms_levels}
-use Rattle.mid_lower.proofs.Nesting.{copied_nests, zeroed_nests, converted_nests, either_nests, low_value_nests, low_test_nests}
+use Rattle.mid_lower.proofs.Nesting.{copied_nests, between_nests, copied_on_nests, zeroed_nests, converted_nests, either_nests, low_value_nests, low_test_nests}
 
 -- ---- initialisers
 
@@ -32,7 +32,7 @@ cell_nests p (suc offset) c = refl
 
 part_nests : (h : Shape) (ty : Ty) (p offset : ℕ) (c : Nodes) (k : ℕ) → 2 ≤ k → nesting c ≤ k → nesting (coded (part_filled h ty p offset) c) ≤ k
 part_nests h ty p offset c k e l =
-    either_nests (is_structure ty) _ _ k (rw (at_nests p offset (coded (copied (words h ty)) c)) (copied_nests (words h ty) c k e l)) (rw (cell_nests p offset c) l)
+    either_nests (is_structure ty) _ _ k (rw (at_nests p offset (coded (copied_on (words h ty) item) c)) (copied_on_nests (words h ty) item c k e l)) (rw (cell_nests p offset c) l)
 
 rest_zero_nests : (p offset size : ℕ) (c : Nodes) (k : ℕ) → 2 ≤ k → nesting c ≤ k → nesting (coded (part_zeroed p offset size) c) ≤ k
 rest_zero_nests p offset zero c k e l = l
@@ -94,7 +94,7 @@ match_nests t i d (MoreB DefaultB rest) = match_nests t (suc i) d rest
 match_nests t i d (MoreB (StmtB a) rest) = match_nests t i d rest
 
 returned_nests : (h : Shape) (ty : Ty) (t : ℕ) (c : Nodes) (k : ℕ) → 2 ≤ k → nesting c ≤ k → nesting (coded (returned h ty t) c) ≤ k
-returned_nests h ty t c k e l = either_nests (is_structure ty) _ _ k (copied_nests (words h ty) (Return None c) k e l) l
+returned_nests h ty t c k e l = either_nests (is_structure ty) _ _ k (between_nests (words h ty) t result_at (Return None c) k e l) l
 
 chosen_nests : (h : Shape) (test : Option TExprT) (n m : ℕ) (turn : Piece) (k : ℕ) → 2 * maybe_levels test ≤ k → nesting (coded turn Stop) + 1 ≤ k → nesting (coded (low_chosen h test n m turn) Stop) ≤ k
 chosen_nests h None n m turn k le l = omega (arith, l)
@@ -173,7 +173,7 @@ mutual
 -- ---- functions
 
 received_nests : (h : Shape) (ty : Ty) (j a : ℕ) (c : Nodes) (k : ℕ) → 2 ≤ k → nesting c ≤ k → nesting (coded (received h ty j a) c) ≤ k
-received_nests h ty j a c k e l = either_nests (is_structure ty) _ _ k (copied_nests (words h ty) c k e l) l
+received_nests h ty j a c k e l = either_nests (is_structure ty) _ _ k (copied_on_nests (words h ty) a c k e l) l
 
 all_received_nests : (h : Shape) (tys : List Ty) (j a : ℕ) (c : Nodes) (k : ℕ) → 2 ≤ k → nesting c ≤ k → nesting (coded (all_received h tys j a) c) ≤ k
 all_received_nests h [] j a c k e l = l

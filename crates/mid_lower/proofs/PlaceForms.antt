@@ -22,7 +22,7 @@ use Rattle.c_meaning.specs.Setting.{words}
 use Rattle.c_meaning.specs.Operators.{converted, read_as, operated, stepped}
 use Rattle.c_meaning.specs.Expressions as src
 use Rattle.c_meaning.specs.Expressions.{evaluated, old_or_new}
-use Rattle.mid_code.specs.Code.{ConstO, MoveO, StepO, LoadO, StoreO, OutO, NodesT, Do}
+use Rattle.mid_code.specs.Code.{ConstO, StepO, LoadO, StoreO, OutO, NodesT, Do}
 use Rattle.mid_code.specs.Meaning.{Res, did}
 use Rattle.mid_code.specs.States.{temporaries, to, spent}
 use Rattle.mid_code.specs.States as mid
@@ -76,7 +76,7 @@ module _ (S : Site) where
       let m2 : ℕ = m + length (sizes h a) in
       let c1 : NodesT ℕ = coded (part.converted (type_of a) (is_flag b) t) (Do (StoreO n t) c) in
       let c0 : NodesT ℕ = coded (low.value h b (low.low h b) t n2 m2) c1 in
-      subst (λ z. SimV γ (R c) false (src.assign S.s S.bound None a b span (evaluated S.s S.bound S.prev a (tick w)) (evaluated S.s S.bound S.prev b)) (R (coded (low.low h a n (n + 1) m) (coded (low.value h b (low.low h b) t n2 m2) (coded (part.converted (type_of a) (is_flag b) t) (if z then Do (MoveO part.from t) (Do (MoveO part.to n) (coded (part.copied (words S.s (type_of a))) c)) else Do (StoreO n t) c)))) (mk w y))) (sym nsa)
+      subst (λ z. SimV γ (R c) false (src.assign S.s S.bound None a b span (evaluated S.s S.bound S.prev a (tick w)) (evaluated S.s S.bound S.prev b)) (R (coded (low.low h a n (n + 1) m) (coded (low.value h b (low.low h b) t n2 m2) (coded (part.converted (type_of a) (is_flag b) t) (if z then coded (part.copied_between (words S.s (type_of a)) t n) c else Do (StoreO n t) c)))) (mk w y))) (sym nsa)
       (bind_place γ (R c) false 36 n (n + 1) (tick w) y (R c0) (begin_value S t n w y u) (above_free γ n (omega arith)) (omega arith) (R_grows c0) (is_place a) span (evaluated S.s S.bound S.prev a (tick w)) (R (coded (low.low h a n (n + 1) m) c0) (mk w y)) (sima n (n + 1) m c0 (tick w) y (omega (arith, st, tn)) (omega arith) u (room_first S γ.base m (sizes h a) (value_sizes h b) room))
       (λ p wa. src.with_value Stops S.s S.bound b (evaluated S.s S.bound S.prev b wa) (λ d wb. src.assigned S.s S.bound a span p d wb))
       (λ p wa xa er ha at below.

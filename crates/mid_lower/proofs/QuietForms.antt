@@ -12,14 +12,14 @@ use Rattle.c_rules.specs.Nodes.{needs_place}
 use Rattle.c_exprs.specs.Nodes.{is_place}
 use Rattle.c_meaning.specs.Kinds.{type_of}
 use Rattle.c_types.specs.Kinds.{is_structure, decayed, pointed}
-use Rattle.mid_code.specs.Code.{ConstO, LoadO, LocalO, Stop, Do, Choose, Block}
+use Rattle.mid_code.specs.Code.{ConstO, LoadO, Stop, Do, Choose, Block}
 use Rattle.lower_trees.specs.Shape.{Shape, words}
 use Rattle.lower_trees.specs.Flags.{is_flag, tests_flag}
 use Rattle.lower_trees.specs.Pieces.{Nodes, coded}
 use Rattle.lower_trees.specs.Parts.{as_flag, stored, operated}
 use Rattle.lower_trees.specs.Expressions.{Low, read, value_of, value, test, unary, second, beyond, size_at, binary, behind_place, assign, step_made, stepped_to, step_taken, index, member_of, called, converted_to, counts_up}
 use Rattle.mid_lower.specs.SourceLoops.{reads}
-use Rattle.mid_lower.proofs.Tallies.{Counting, tally, one_is, Spared, either_tally, copied_tally, flag_tally, converted_tally, stepped_tally, operated_tally, more_tally, less_tally, tested_tally, negated_tally, stored_tally}
+use Rattle.mid_lower.proofs.Tallies.{Counting, tally, one_is, Spared, either_tally, local_tally, flag_tally, converted_tally, stepped_tally, operated_tally, more_tally, less_tally, tested_tally, negated_tally, stored_tally}
 
 module _ (k : Counting) where
   -- a part that adds none
@@ -42,9 +42,9 @@ module _ (k : Counting) where
   read_quiet h BoolY local part s p t n m c = p n (n + 1) m (Do (LoadO t n) c)
   read_quiet h (EnumY number) local part s p t n m c = p n (n + 1) m (Do (LoadO t n) c)
   read_quiet h (PointerY of) local part s p t n m c = p n (n + 1) m (Do (LoadO t n) c)
-  read_quiet h (StructY number) local part (inl e) p t n m c = p t n m _ ∙ copied_tally k (words h (StructY number)) (Do (LocalO t local) c) e
+  read_quiet h (StructY number) local part (inl e) p t n m c = p t n m _ ∙ local_tally k (words h (StructY number)) local t c e
   read_quiet h (StructY number) local part (inr s) p t n m c = cc
-  read_quiet h (UnionY number) local part (inl e) p t n m c = p t n m _ ∙ copied_tally k (words h (UnionY number)) (Do (LocalO t local) c) e
+  read_quiet h (UnionY number) local part (inl e) p t n m c = p t n m _ ∙ local_tally k (words h (UnionY number)) local t c e
   read_quiet h (UnionY number) local part (inr s) p t n m c = cc
 
   and_true : (a : Bool) → Spared k (a && true) → Spared k a

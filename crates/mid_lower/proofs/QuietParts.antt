@@ -7,11 +7,11 @@ use Rattle.mid_code.specs.Code.{Stop, TwoO, Do, Choose}
 use Rattle.v32_isa.specs.declared.instruction.Two.TheVariants.{ISUB}
 use Rattle.lower_trees.specs.Shape.{Shape, words, literal_words}
 use Rattle.lower_trees.specs.Pieces.{Nodes, coded}
-use Rattle.lower_trees.specs.Parts.{copied, zeroed, one}
+use Rattle.lower_trees.specs.Parts.{copied_on, zeroed, item, one, result_at}
 use Rattle.lower_trees.specs.Initialisers.{part_at, cell_filled, part_filled, part_zeroed, low_text, low_rest, object_to}
 use Rattle.lower_trees.specs.Statements.{Jump, ToEnd, ToTurn, jump, low_match, returned}
 use Rattle.lower_trees.specs.Lowered.{received}
-use Rattle.mid_lower.proofs.Tallies.{Counting, tally, Spared, either_tally, copied_tally, zeroed_tally}
+use Rattle.mid_lower.proofs.Tallies.{Counting, tally, Spared, either_tally, copied_tally, between_tally, copied_on_tally, zeroed_tally}
 
 module _ (k : Counting) where
   -- ---- initialisers
@@ -25,7 +25,7 @@ module _ (k : Counting) where
   cell_tally p (suc offset) c = refl
 
   pub filled_tally : (h : Shape) (ty : Ty) (p offset : ℕ) (c : Nodes) → Spared k (is_structure ty) → tally k (coded (part_filled h ty p offset) c) ≡ tally k c
-  filled_tally h ty p offset c (inl e) = either_tally k (is_structure ty) _ _ (tally k c) (at_tally p offset (coded (copied (words h ty)) c) ∙ copied_tally k (words h ty) c e) (cell_tally p offset c)
+  filled_tally h ty p offset c (inl e) = either_tally k (is_structure ty) _ _ (tally k c) (at_tally p offset (coded (copied_on (words h ty) item) c) ∙ copied_on_tally k (words h ty) item c e) (cell_tally p offset c)
   filled_tally h ty p offset c (inr s) = rw s (cell_tally p offset c)
 
   cleared_tally : (p offset size : ℕ) (c : Nodes) → k.loop ≡ 0 → tally k (coded (part_zeroed p offset size) c) ≡ tally k c
@@ -75,9 +75,9 @@ module _ (k : Counting) where
   label_tally t a c e f = omega (arith, e, f)
 
   pub returned_tally : (h : Shape) (ty : Ty) (t : ℕ) (c : Nodes) → Spared k (is_structure ty) → tally k (coded (returned h ty t) c) ≡ tally k c
-  returned_tally h ty t c (inl e) = either_tally k (is_structure ty) _ _ (tally k c) (copied_tally k (words h ty) _ e) refl
+  returned_tally h ty t c (inl e) = either_tally k (is_structure ty) _ _ (tally k c) (between_tally k (words h ty) t result_at _ e) refl
   returned_tally h ty t c (inr s) = rw s refl
 
   pub received_tally : (h : Shape) (ty : Ty) (number a : ℕ) (c : Nodes) → Spared k (is_structure ty) → tally k (coded (received h ty number a) c) ≡ tally k c
-  received_tally h ty number a c (inl e) = either_tally k (is_structure ty) _ _ (tally k c) (copied_tally k (words h ty) c e) refl
+  received_tally h ty number a c (inl e) = either_tally k (is_structure ty) _ _ (tally k c) (copied_on_tally k (words h ty) a c e) refl
   received_tally h ty number a c (inr s) = rw s refl

@@ -20,7 +20,7 @@ use Rattle.mid_code.specs.Invariants.{CallsNone}
 use Rattle.lower_trees.specs.Shape.{Shape, words, literal_words}
 use Rattle.lower_trees.specs.Flags.{is_flag, tests_flag}
 use Rattle.lower_trees.specs.Pieces.{Nodes, coded}
-use Rattle.lower_trees.specs.Parts.{item, copied, zeroed, as_flag, converted, with_word, stepped, with_pointer, operated_on, operated, tested_as, negated_as}
+use Rattle.lower_trees.specs.Parts.{item, copied, copied_on, zeroed, as_flag, converted, with_word, stepped, with_pointer, operated_on, operated, tested_as, negated_as}
 use Rattle.lower_trees.specs.Expressions.{value_of, value, test, unary, binary, second, beyond, size_at, low, low_value}
 use Rattle.lower_trees.specs.Initialisers.{part_at, cell_filled, part_filled, part_zeroed, low_text, low_rest, low_init, low_inits, address_of, object_to, low_vars}
 use Rattle.lower_trees.specs.Counts.{read_sizes, unary_sizes, sizes, value_sizes, init_temps, init_sizes, inits_sizes, vars_sizes, behind_address}
@@ -43,6 +43,12 @@ hush_either false p q = q
 copied_quiet : (size : ℕ) → Quiet (coded (copied size))
 copied_quiet zero = record { quiet = λ c z. z }
 copied_quiet (suc left) = record { quiet = λ c z. ((tt, tt, tt), z) }
+
+copied_on_quiet : (size p : ℕ) → Quiet (coded (copied_on size p))
+copied_on_quiet zero p = record { quiet = λ c z. z }
+copied_on_quiet (suc zero) p = record { quiet = λ c z. z }
+copied_on_quiet (suc (suc zero)) p = record { quiet = λ c z. ((tt, tt, tt), z) }
+copied_on_quiet (suc (suc (suc left))) p = record { quiet = λ c z. ((tt, tt, tt), z) }
 
 zeroed_quiet : (size : ℕ) → Quiet (coded (zeroed size))
 zeroed_quiet zero = record { quiet = λ c z. z }
@@ -312,7 +318,7 @@ cell_quiet p (suc offset) = record { quiet = λ c z. z }
 
 part_quiet : (h : Shape) (ty : Ty) (p offset : ℕ) → Quiet (coded (part_filled h ty p offset))
 part_quiet h ty p offset =
-    let q = hushed (part_at_quiet p offset) (copied_quiet (words h ty)) in
+    let q = hushed (part_at_quiet p offset) (copied_on_quiet (words h ty) item) in
     hush_either (is_structure ty) (record { quiet = λ c z. q.quiet c z }) (cell_quiet p offset)
 
 zero_quiet : (p offset size : ℕ) → Quiet (coded (part_zeroed p offset size))

@@ -1,5 +1,5 @@
 -- An object, or a part of one, is filled with a structure that is a value.
-use Rattle.std.proofs.Common.{◌≡◌, ℕ, ◌+◌, ◌^◌, ◌<◌, ◌≤◌, Bool, true, [], ◌∷◌, length, Some, Ok, refl, sym, ap, ◌∙◌, subst, arith, if◌then◌else◌}
+use Rattle.std.proofs.Common.{◌≡◌, ℕ, ◌+◌, ◌^◌, ◌<◌, ◌≤◌, Bool, true, [], ◌∷◌, length, Some, refl, sym, ◌∙◌, subst, arith, if◌then◌else◌}
 use Rattle.c_types.specs.Types.{Ty}
 use Rattle.c_types.specs.Typed.{TExprT, OneI}
 use Rattle.c_types.specs.Sizes.{words_of}
@@ -14,9 +14,8 @@ use Rattle.c_meaning.specs.Cells.{cells_set, stored, released, end_temporary}
 use Rattle.c_meaning.specs.Operators.{converted}
 use Rattle.c_meaning.specs.Expressions.{value_of, evaluated}
 use Rattle.c_meaning.specs.Initialisers.{filled}
-use Rattle.mid_code.specs.Code.{MoveO, NodesT, Do}
+use Rattle.mid_code.specs.Code.{NodesT}
 use Rattle.mid_code.specs.Meaning.{Res}
-use Rattle.mid_code.specs.States.{temporaries, to, spent}
 use Rattle.lower_trees.specs.Pieces.{coded}
 use Rattle.lower_trees.specs.Shape.{Shape, shape_in, words}
 use Rattle.lower_trees.specs.Flags.{is_flag}
@@ -26,10 +25,10 @@ use Rattle.lower_trees.specs.Counts.{value_sizes}
 use Rattle.mid_lower.proofs.Grows.{Mid, Grows}
 use Rattle.mid_lower.proofs.Words.{in_words}
 use Rattle.mid_lower.proofs.Fits.{Site}
-use Rattle.mid_lower.proofs.Following.{Side, mk, Goal, Now, Way, spare, low_free, eqb_more, kept_wider, M, M_grows, sets}
+use Rattle.mid_lower.proofs.Following.{Side, mk, Goal, Now, Way, spare, low_free, eqb_more, kept_wider, M, M_grows}
 use Rattle.mid_lower.proofs.Room.{Room, room_at}
 use Rattle.mid_lower.proofs.Calling.{BodiesFollow}
-use Rattle.mid_lower.proofs.CellLoops.{copies}
+use Rattle.mid_lower.proofs.CellLoops.{copies_on}
 use Rattle.mid_lower.proofs.FillParts.{went_went, way_went, part_of, at_part, worked, Goes}
 use Rattle.mid_lower.proofs.StructureValues.{anew, back_to}
 use Rattle.mid_lower.proofs.Taken.{Taken, taken_here, taken_on, taken_left}
@@ -59,14 +58,13 @@ module _ (S : Site) (bodies : BodiesFollow S) (γ : Goal) (skips : 2 ≤ γ.skip
       let r : σ.R = then_went σ.stop loop after in
       subst (λ d. σ.T (then_went σ.stop (asked CutOff nowhere wa (converted ty (Ptr q j)) (λ z. then_went CutOff (stored S.s S.bound 1 ty nowhere (part_of o offset) z wa) (λ v. Through (on_store (released ty z) v)))) go) (R d (mk wa xa))) (sym (same_code S ty known part.item (coded (low.part_filled h ty p offset) c) structure))
       (subst (λ i. σ.T (then_went σ.stop (asked CutOff nowhere wa i (λ z. then_went CutOff (stored S.s S.bound 1 ty nowhere (part_of o offset) z wa) (λ v. Through (on_store (released ty z) v)))) go) (R (coded (low.part_filled h ty p offset) c) (mk wa xa))) (sym (kept_structure S ty (Ptr q j) structure))
-      (subst (λ b. σ.T (then_went σ.stop (then_went CutOff (if b then cells_set nowhere (1 + 1) S.bound size (Some (Ptr q j)) (part_of o offset) wa else asked CutOff nowhere (spend 1 wa) (write wa.store.objects (part_of o offset) (Ptr q j)) (λ os. Through (on_store (with_objects os) (spend 1 wa)))) (λ v. Through (on_store (λ t. if b then end_temporary (Ptr q j) t else t) v))) go) (R (if b then Do (MoveO part.from part.item) (coded (low.part_at p offset) (coded (part.copied size) c)) else coded (low.cell_filled p offset) c) (mk wa xa))) (sym structure)
-      (subst (λ d. σ.T d (R (Do (MoveO part.from part.item) (coded (low.part_at p offset) (coded (part.copied size) c))) (mk wa xa))) (sym (went_went σ.stop loop (λ v. Through (on_store (end_temporary (Ptr q j)) v)) go))
-      (sets S σ.T γ1 (s0 + 76) wa xa part.from (Ptr q j) (MoveO part.from part.item) (coded (low.part_at p offset) (coded (part.copied size) c)) (spare γ1 (s0 + 84) (s0 + 76 + 8) wa xa (omega arith) (taken_here γ (s0 + 84) hi (q ∷ []) wa xa hx)) (low_free γ1 part.from (omega arith)) (ap (λ z. to temporaries part.from (Ok z) (spent 8 (mk wa xa))) at) r (λ y hy ey rest.
-      at_part S bodies γ1 skips σ.T (s0 + 60) o p offset wa y (coded (part.copied size) c) (spare γ1 (s0 + 76) (s0 + 60 + 16) wa y (omega arith) hy) le (rest p (eqb_more p part.from (omega (arith, le))) ∙ below p le lt ∙ ep) r (λ z hz ez rest2.
-      copies S γ1 nowhere 2 (omega arith) σ1 (s0 + 44) size (omega (arith, few)) (Ptr q j) (part_of o offset) wa z c (spare γ1 (s0 + 60) (s0 + 44 + 16) wa z (omega arith) hz) (rest2 part.from refl ∙ ey) ez after (λ v u hu others.
+      (subst (λ b. σ.T (then_went σ.stop (then_went CutOff (if b then cells_set nowhere (1 + 1) S.bound size (Some (Ptr q j)) (part_of o offset) wa else asked CutOff nowhere (spend 1 wa) (write wa.store.objects (part_of o offset) (Ptr q j)) (λ os. Through (on_store (with_objects os) (spend 1 wa)))) (λ v. Through (on_store (λ t. if b then end_temporary (Ptr q j) t else t) v))) go) (R (if b then coded (low.part_at p offset) (coded (part.copied_on size part.item) c) else coded (low.cell_filled p offset) c) (mk wa xa))) (sym structure)
+      (subst (λ d. σ.T d (R (coded (low.part_at p offset) (coded (part.copied_on size part.item) c)) (mk wa xa))) (sym (went_went σ.stop loop (λ v. Through (on_store (end_temporary (Ptr q j)) v)) go))
+      (at_part S bodies γ1 skips σ.T (s0 + 68) o p offset wa xa (coded (part.copied_on size part.item) c) (spare γ1 (s0 + 84) (s0 + 68 + 16) wa xa (omega arith) (taken_here γ (s0 + 84) hi (q ∷ []) wa xa hx)) le (below p le lt ∙ ep) r (λ z hz ez rest.
+      copies_on S γ1 nowhere 2 (omega arith) σ1 (s0 + 44) size (omega (arith, few)) part.item (Ptr q j) (part_of o offset) wa z c (spare γ1 (s0 + 68) (s0 + 44 + 24) wa z (omega arith) hz) (omega arith) (rest part.item refl ∙ at) ez after (λ v u hu others.
       f (on_store (end_temporary (Ptr q j)) v) (back_to γ.base.floor u)
       (spare γ (s0 + 44 + 16) s0 (on_store (end_temporary (Ptr q j)) v) (back_to γ.base.floor u) (omega arith) (taken_left γ (s0 + 44 + 16) hi q j v u (taken_on γ (s0 + 84) (s0 + 44 + 16) hi (q ∷ []) wa xa v u hx hu)))
-      (λ k g l. others k (omega (arith, g)) ∙ rest2 k (eqb_more k part.to (omega (arith, g))) ∙ rest k (eqb_more k part.from (omega (arith, g))) ∙ below k g l))))))))
+      (λ k g l. others k (omega (arith, g)) ∙ rest k (eqb_more k part.to (omega (arith, g))) ∙ below k g l)))))))
 
   pub one_structure : (e : TExprT) (ty : Ty) → FollowValue S e → is_structure ty ≡ true → (σ : Way γ) (s0 o p offset n m : ℕ) (w : World) (x : Side) (c : NodesT ℕ) → Now γ s0 w x → 7 ≤ p → p < n → γ.first ≤ n → Room S γ.base m (value_sizes h e) → x.temps p ≡ Ptr o 0 → (go : World → σ.R) → Goes S bodies γ skips σ s0 n x c go
       → σ.T (then_went σ.stop (filled S.s S.bound S.prev (OneI e) ty (part_of o offset) w) go) (R (coded (low.low_init h (OneI e) ty p offset n m) c) (mk w x))

@@ -1,5 +1,5 @@
 -- Structures that are values are used: assigned, and dropped.
-use Rattle.std.proofs.Common.{◌≡◌, ℕ, ◌+◌, ◌<◌, ◌≤◌, ◌^◌, Bool, true, false, [], ◌∷◌, ◌++◌, length, Some, None, Ok, refl, sym, ap, ◌∙◌, subst, arith, if◌then◌else◌}
+use Rattle.std.proofs.Common.{◌≡◌, ℕ, ◌+◌, ◌<◌, ◌≤◌, ◌^◌, Bool, true, false, [], ◌∷◌, ◌++◌, length, Some, None, Ok, refl, sym, ◌∙◌, subst, arith, if◌then◌else◌}
 use Rattle.std.proofs.lemmas.Bool.{false≢true}
 use Rattle.c_tree.specs.declared.span.Span.{Span}
 use Rattle.c_types.specs.Types.{Ty, VoidY, IntY, BoolY, EnumY, StructY, UnionY, PointerY, ArrayY}
@@ -20,8 +20,7 @@ use Rattle.c_meaning.specs.Cells.{end_temporary, stored, cells_set}
 use Rattle.c_meaning.specs.Operators.{converted}
 use Rattle.c_meaning.specs.Expressions as src
 use Rattle.c_meaning.specs.Expressions.{value_of, dropped, dropped_value, evaluated}
-use Rattle.mid_code.specs.Code.{MoveO, StoreO, NodesT, Do}
-use Rattle.mid_code.specs.States.{temporaries, to, spent}
+use Rattle.mid_code.specs.Code.{StoreO, NodesT, Do}
 use Rattle.mid_code.specs.Meaning.{Res}
 use Rattle.mid_code.specs.inner.Passing.{Prefix}
 use Rattle.lower_trees.specs.Shape.{Shape, shape_in, words}
@@ -35,10 +34,10 @@ use Rattle.mid_lower.proofs.Grows.{Mid, Grows}
 use Rattle.mid_lower.proofs.Words.{in_words}
 use Rattle.mid_lower.proofs.Lives.{later_then}
 use Rattle.mid_lower.proofs.Fits.{Site}
-use Rattle.mid_lower.proofs.Following.{events_of, Side, mk, Goal, goal, Fit, Now, Kept, SimV, Way, Free, Before, scratch, base_of, restay, stays_here, stays_then, spare, value_now, at_free, low_free, above_free, eqb_more, kept_wider, M, M_grows, sets}
+use Rattle.mid_lower.proofs.Following.{events_of, Side, mk, Goal, goal, Fit, Now, Kept, SimV, Way, Free, Before, scratch, base_of, restay, stays_here, stays_then, value_now, at_free, above_free, eqb_more, kept_wider, M, M_grows}
 use Rattle.mid_lower.proofs.Room.{Room, room_at, room_first, room_second}
 use Rattle.mid_lower.proofs.Values.{Follow}
-use Rattle.mid_lower.proofs.CellLoops.{copies}
+use Rattle.mid_lower.proofs.CellLoops.{copies_between}
 use Rattle.mid_lower.proofs.StructureValues.{anew, back_to}
 use Rattle.mid_lower.proofs.Taken.{Taken, taken_less, taken_here, taken_on, taken_left}
 use Rattle.mid_lower.proofs.Structures.{structure_goal, SimS, FollowValue}
@@ -151,16 +150,12 @@ module _ (S : Site) where
     structure_stored T stops f =
         let size : ℕ = words h (type_of e) in
         let σ : Way γ1 = record { R = Val; stop = Stops; T = T; stops = λ i u m q. stops i u m (kept_wider γ γ1 (omega arith) i u m q) } in
-        let r : Val = then_went Stops (cells_set (span_of e) 1 S.bound size (Some (Ptr o j)) place w) (λ u. Value (Ptr o j) u) in
         let few : size < 2 ^ 32 = in_words (words_of h.layouts (type_of e)) in
         subst (λ d. T (src.assigned S.s S.bound e span place (Ptr o j) w) (R d (mk w x))) (sym (same_code (type_of e) known t (coded (part.stored h (type_of e) p t) c) structure))
         (subst (λ q. T (asked Stops span w q (λ z. then_went Stops (stored S.s S.bound 0 (type_of e) (span_of e) place z w) (λ u. Value z u))) (R (coded (part.stored h (type_of e) p t) c) (mk w x))) (sym (kept_structure (type_of e) (Ptr o j) structure))
-        (subst (λ b. T (then_went Stops (if b then cells_set (span_of e) (0 + 1) S.bound size (Some (Ptr o j)) place w else asked CutOff (span_of e) (spend 0 w) (write w.store.objects place (Ptr o j)) (λ os. Through (on_store (with_objects os) (spend 0 w)))) (λ u. Value (Ptr o j) u)) (R (if b then Do (MoveO part.from t) (Do (MoveO part.to p) (coded (part.copied size) c)) else Do (StoreO p t) c) (mk w x))) (sym structure)
-        (sets S T γ1 (s + 24) w x part.from (Ptr o j) (MoveO part.from t) (Do (MoveO part.to p) (coded (part.copied size) c)) (spare γ1 (s + 32) (s + 24 + 8) w x (omega arith) (taken_here γ (s + 32) hi (o ∷ []) w x h0)) (low_free γ1 part.from (omega arith)) (ap (λ z. to temporaries part.from (Ok z) (spent 8 (mk w x))) at) r (λ y hy ey rest.
-        sets S T γ1 (s + 16) w y part.to place (MoveO part.to p) (coded (part.copied size) c) (spare γ1 (s + 24) (s + 16 + 8) w y (omega arith) hy) (low_free γ1 part.to (omega arith)) (ap (λ z. to temporaries part.to (Ok z) (spent 8 (mk w y))) (rest p (eqb_more p part.from (omega (arith, five_p))) ∙ there)) r (λ z hz ez rest2.
-        copies S γ1 (span_of e) 1 (omega arith) σ s size (omega (arith, few)) (Ptr o j) place w z c hz (rest2 part.from refl ∙ ey) ez (λ u. Value (Ptr o j) u) (λ v u hu others.
-        f v u (taken_on γ (s + 32) (s + 16) hi (o ∷ []) w x v u h0 hu) (others t five ∙ rest2 t (eqb_more t part.to (omega (arith, five))) ∙ rest t (eqb_more t part.from (omega (arith, five))) ∙ at)
-        (λ i g. others i g ∙ rest2 i (eqb_more i part.to (omega (arith, g))) ∙ rest i (eqb_more i part.from (omega (arith, g))))))))))
+        (subst (λ b. T (then_went Stops (if b then cells_set (span_of e) (0 + 1) S.bound size (Some (Ptr o j)) place w else asked CutOff (span_of e) (spend 0 w) (write w.store.objects place (Ptr o j)) (λ os. Through (on_store (with_objects os) (spend 0 w)))) (λ u. Value (Ptr o j) u)) (R (if b then coded (part.copied_between size t p) c else Do (StoreO p t) c) (mk w x))) (sym structure)
+        (copies_between S γ1 (span_of e) 1 (omega arith) σ s size (omega (arith, few)) t p (Ptr o j) place w x c (taken_here γ (s + 32) hi (o ∷ []) w x h0) five five_p at there (λ u. Value (Ptr o j) u) (λ v u hu others.
+        f v u (taken_on γ (s + 32) (s + 16) hi (o ∷ []) w x v u h0 hu) (others t five ∙ at) others))))
 
   -- the assignment of a structure, whose value is that structure
   pub assign_structure : (a b : TExprT) → Follow S a → FollowValue S b → is_structure (type_of a) ≡ true → (span : Span) (t n m hi : ℕ) (c : NodesT ℕ) (w : World) (y : Side) → scratch ≤ t → t < n → Fit w y → Room S (base_of w y) m (sizes h a ++ value_sizes h b) → m + length (sizes h a) + length (value_sizes h b) ≤ hi

@@ -1,17 +1,18 @@
 -- A structure that is a value stands in a local that was not in use, and the local is no longer in use once the value was used.
-use Rattle.std.proofs.Common.{◌≡◌, ℕ, zero, suc, ◌+◌, ◌<◌, ◌≤◌, ◌^◌, false, eqb, List, [], ◌∷◌, ◌++◌, length, set, Option, Some, None, Ok, refl, sym, ap, ◌∙◌, subst, arith}
+use Rattle.std.proofs.Common.{◌≡◌, ℕ, zero, suc, ◌+◌, ◌<◌, ◌≤◌, ◌^◌, false, eqb, ◌%◌, List, [], ◌∷◌, ◌++◌, length, set, Option, Some, None, Ok, refl, sym, ap, ◌∙◌, subst, arith}
 use Rattle.std.proofs.lemmas.Bool.{false≢true}
 use Rattle.c_tree.specs.declared.span.Span.{Span}
 use Rattle.obj_mem.specs.Objects.{ObjectT, object, made, unwritten, end_object}
 use Rattle.obj_mem.specs.declared.cell.Cell.{Cell}
-use Rattle.obj_mem.specs.declared.cell.Cell.TheVariants.{Ptr}
+use Rattle.obj_mem.specs.declared.cell.Cell.TheVariants.{Unwritten, Num, Ptr, Null}
 use Rattle.obj_mem.specs.declared.cell.ObjectKind.TheVariants as kind
-use Rattle.obj_mem.specs.Stores.{local_object, words_here, end_local, with_temporary, next_object}
-use Rattle.obj_mem.specs.Queries.{first_cell}
-use Rattle.obj_mem.specs.Worlds.{World, on_store}
+use Rattle.obj_mem.specs.Stores.{local_object, words_here, end_local, with_objects, with_temporary, next_object}
+use Rattle.obj_mem.specs.Queries.{write, further, first_cell}
+use Rattle.obj_mem.specs.Worlds.{World, on_store, spend}
+use Rattle.c_meaning.specs.declared.end.End.TheVariants.{Stray}
 use Rattle.c_meaning.specs.Cells.{cells_set}
-use Rattle.c_meaning.specs.Outcomes.{then_went}
-use Rattle.mid_code.specs.Code.{FreshO, MoveO, LocalO, NodesT, Do}
+use Rattle.c_meaning.specs.Outcomes.{Went, asked, then_went}
+use Rattle.mid_code.specs.Code.{FreshO, ConstO, MoveO, LocalO, StepO, LoadO, StoreO, NodesT, Do}
 use Rattle.mid_code.specs.Meaning.{Res}
 use Rattle.mid_code.specs.States.{temporaries, sizes_of, to, spent}
 use Rattle.lower_trees.specs.Pieces.{coded}
@@ -20,8 +21,10 @@ use Rattle.mid_lower.proofs.Grows.{Mid}
 use Rattle.mid_lower.proofs.Under.{Under, under_join, under_length}
 use Rattle.mid_lower.proofs.Lives.{Ended, Gone, later_gone, later_join}
 use Rattle.mid_lower.proofs.Fits.{Site}
-use Rattle.mid_lower.proofs.Following.{Side, mk, base_of, Goal, Fit, stays_here, Now, Way, Free, spare, kept_wider, low_free, eqb_more, M, sets}
-use Rattle.mid_lower.proofs.CellLoops.{copies}
+use Rattle.mid_lower.proofs.Following.{Side, mk, base_of, Goal, Fit, stays_here, Now, Way, Free, Rest, spare, kept_wider, low_free, eqb_less, eqb_more, M, M_grows, sets}
+use Rattle.mid_lower.proofs.Instructions.{step_eq}
+use Rattle.mid_lower.proofs.Storing.{stores}
+use Rattle.mid_lower.proofs.CellLoops.{copies, Turns, cell_first, word_behind, turn_asked}
 
 -- ---- locals behind the function's own
 
@@ -141,17 +144,90 @@ module _ (S : Site) where
     here : (v : World) (y : Side) (q : ℕ) → Now γ1 q v y → first_cell (local_object (v.store.locals ++ y.extra) k) ≡ Ok value_at
     here v y q n = cell_there γ q k i size w x v y at lt n
 
+    -- what follows the copy
+    abbrev Goes : (World → σ.R) → Type 0
+    Goes go = (v : World) (y : Side) → Now γ1 (s + 28) v y → y.temps t ≡ value_at → ((j : ℕ) → 5 ≤ j → eqb j t ≡ false → y.temps j ≡ x.temps j) → σ.T (go v) (R c (mk v y))
+
+    abbrev w1 : World
+    w1 = with_value size w
+
+    abbrev x1 : Side
+    x1 = taken i size w x
+
+    h1 : Now γ1 (s + 52) w1 x1
+    h1 = taken_now γ (s + 52) i size w x h le
+
+    -- the pointer to the copy comes to t
+    local_set : (T : σ.R → Res Mid → Type 0) (s0 : ℕ) (v : World) (y : Side) (d : NodesT ℕ) → Now γ1 (s0 + 8) v y → (r : σ.R) → ((z : Side) → Now γ1 s0 v z → z.temps t ≡ value_at → Rest t y z → T r (R d (mk v z))) → T r (R (Do (LocalO t k) d) (mk v y))
+    local_set T s0 v y d hy r f = sets S T γ1 s0 v y t value_at (LocalO t k) d hy free (ap (λ q. to temporaries t q (spent 8 (mk v y))) (here v y (s0 + 8) hy)) r f
+
+    below_t : (j : ℕ) → j < 5 → eqb j t ≡ false
+    below_t j lt = eqb_less j t (omega (arith, lt, six))
+
+    one_copied : (p : Cell) → x.temps t ≡ p → (go : World → σ.R) → Goes go → σ.T (then_went σ.stop (cells_set span 1 S.bound (suc zero) (Some p) value_at w1) go) (R (coded (part.local_filled (suc zero) k t) c) (mk w1 x1))
+    one_copied p ep go f =
+        let w2 : World = spend 1 w1 in
+        cell_first S γ1 span 1 (omega arith) σ1 (s + 52) S.bound zero t p value_at w1 x1 (Do (LocalO t k) (Do (StoreO t part.cell) c)) h1 ep go (λ v y hy at rest.
+        local_set σ.T (s + 100) w2 y (Do (StoreO t part.cell) c) (spare γ1 (s + 52 + 56) (s + 100 + 8) w2 y (omega arith) hy) (asked σ.stop span w2 (write w1.store.objects value_at v) (λ os. go (on_store (with_objects os) w2))) (λ z hz ez rest2.
+        stores S γ1 σ1 span w2 (s + 92) z t part.cell value_at v c (spare γ1 (s + 100) (s + 92 + 8) w2 z (omega arith) hz) ez (rest2 part.cell (below_t part.cell (omega arith)) ∙ at) go (λ os u hu alike.
+        f (on_store (with_objects os) w2) u (spare γ1 (s + 92) (s + 28) (on_store (with_objects os) w2) u (omega arith) hu) (alike t ∙ ez) (λ j five ne. alike j ∙ rest2 j ne ∙ rest j (eqb_more j part.cell (omega (arith, five)))))))
+
+    two_copied : (p : Cell) → x.temps t ≡ p → (go : World → σ.R) → Goes go → σ.T (then_went σ.stop (cells_set span 1 S.bound (suc (suc zero)) (Some p) value_at w1) go) (R (coded (part.local_filled (suc (suc zero)) k t) c) (mk w1 x1))
+    two_copied (Ptr o j) ep go f =
+        cell_first S γ1 span 1 (omega arith) σ1 (s + 52) S.bound (suc zero) t (Ptr o j) value_at w1 x1 behind h1 ep go (λ v y hy at rest.
+        let r : σ.R = asked σ.stop span w2 (write w1.store.objects value_at v) (λ os. turns (on_store (with_objects os) w2)) in
+        sets S σ.T γ1 (s + 100) w2 y part.one (Num 1) (ConstO part.one 1) (Do (StepO part.from t part.one) (Do (LocalO t k) (Do (StoreO t part.cell) later))) (spare γ1 (s + 52 + 56) (s + 100 + 8) w2 y (omega arith) hy) (low_free γ1 part.one (omega arith)) refl r (λ z hz ez rest2.
+        sets S σ.T γ1 (s + 92) w2 z part.from (further (Ptr o j) 1) (StepO part.from t part.one) (Do (LocalO t k) (Do (StoreO t part.cell) later)) (spare γ1 (s + 100) (s + 92 + 8) w2 z (omega arith) hz) (low_free γ1 part.from (omega arith))
+        (ap (λ u. to temporaries part.from u (spent 8 (mk w2 z))) (step_eq (Ptr o j) (Num 1) (z.temps t) (z.temps part.one) (rest2 t (eqb_more t part.one (omega (arith, six))) ∙ rest t (eqb_more t part.cell (omega (arith, six))) ∙ ep) ez)) r (λ b hb eb rest3.
+        local_set σ.T (s + 84) w2 b (Do (StoreO t part.cell) later) (spare γ1 (s + 92) (s + 84 + 8) w2 b (omega arith) hb) r (λ d hd ed rest4.
+        stores S γ1 σ1 span w2 (s + 76) d t part.cell value_at v later (spare γ1 (s + 84) (s + 76 + 8) w2 d (omega arith) hd) ed (rest4 part.cell (below_t part.cell (omega arith)) ∙ rest3 part.cell refl ∙ rest2 part.cell refl ∙ at) turns (λ os e he alike.
+        let w3 : World = on_store (with_objects os) w2 in
+        turn_asked S γ1 span 1 (omega arith) σ1 (s + 20) w3 e last (spare γ1 (s + 76) (s + 20 + 56) w3 e (omega arith) he) turn go (λ m g hg rest5.
+        word_behind S γ1 span 1 (omega arith) σ1 (s + 20) m o ((j + 1) % 2 ^ 32) t (length w.store.objects) 0 w3 g c hg (omega (arith, six))
+        (rest5 part.one refl ∙ alike part.one ∙ rest4 part.one (below_t part.one (omega arith)) ∙ rest3 part.one refl ∙ ez)
+        (rest5 part.from refl ∙ alike part.from ∙ rest4 part.from (below_t part.from (omega arith)) ∙ eb)
+        (rest5 t (eqb_more t part.count (omega (arith, six))) ∙ alike t ∙ ed) go (λ v2 u hu others.
+        f v2 u (spare γ1 (s + 20 + 40) (s + 28) v2 u (omega arith) hu)
+        (others t (eqb_more t part.cell (omega (arith, six))) (eqb_more t part.to (omega (arith, six))) ∙ rest5 t (eqb_more t part.count (omega (arith, six))) ∙ alike t ∙ ed)
+        (λ k five ne. others k (eqb_more k part.cell (omega (arith, five))) (eqb_more k part.to (omega (arith, five))) ∙ rest5 k (eqb_more k part.count (omega (arith, five))) ∙ alike k ∙ rest4 k ne ∙ rest3 k (eqb_more k part.from (omega (arith, five))) ∙ rest2 k (eqb_more k part.one (omega (arith, five))) ∙ rest k (eqb_more k part.cell (omega (arith, five)))))))))))
+      where
+        w2 : World
+        w2 = spend 1 w1
+
+        last : NodesT ℕ
+        last = Do (LoadO part.cell part.from) (Do (StepO part.to t part.one) (Do (StoreO part.to part.cell) c))
+
+        later : NodesT ℕ
+        later = coded part.asked last
+
+        behind : NodesT ℕ
+        behind = Do (ConstO part.one 1) (Do (StepO part.from t part.one) (Do (LocalO t k) (Do (StoreO t part.cell) later)))
+
+        turn : ℕ → World → Went
+        turn m v = cells_set span 1 m (suc zero) (Some (further (Ptr o j) 1)) (further value_at 1) v
+
+        turns : World → σ.R
+        turns u = then_went σ.stop (Turns S γ1 span 1 (omega arith) (suc zero) S.bound (Ptr o j) value_at u) go
+    two_copied Unwritten ep go f = σ.stops (Stray span) (spend 1 w1) _ (M_grows S (coded (part.local_filled (suc (suc zero)) k t) c) (mk w1 x1))
+    two_copied (Num n) ep go f = σ.stops (Stray span) (spend 1 w1) _ (M_grows S (coded (part.local_filled (suc (suc zero)) k t) c) (mk w1 x1))
+    two_copied Null ep go f = σ.stops (Stray span) (spend 1 w1) _ (M_grows S (coded (part.local_filled (suc (suc zero)) k t) c) (mk w1 x1))
+
+    filled_copied : (size : ℕ) → size ≤ 2 ^ 32 → (p : Cell) → x.temps t ≡ p → (go : World → σ.R) → Goes go → σ.T (then_went σ.stop (cells_set span 1 S.bound size (Some p) value_at w1) go) (R (coded (part.local_filled size k t) c) (mk w1 x1))
+    filled_copied zero few p ep go f = local_set σ.T (s + 44) w1 x1 c (spare γ1 (s + 52) (s + 44 + 8) w1 x1 (omega arith) h1) (go w1) (λ y hy ey rest. f w1 y (spare γ1 (s + 44) (s + 28) w1 y (omega arith) hy) ey (λ j five ne. rest j ne))
+    filled_copied (suc zero) few p ep go f = one_copied p ep go f
+    filled_copied (suc (suc zero)) few p ep go f = two_copied p ep go f
+    filled_copied (suc (suc (suc left))) few p ep go f =
+        let many : ℕ = suc (suc (suc left)) in
+        let c3 : NodesT ℕ = Do (LocalO t k) c in
+        let c2 : NodesT ℕ = coded (part.copied many) c3 in
+        let r : σ.R = then_went σ.stop (cells_set span 1 S.bound many (Some p) value_at w1) go in
+        sets S σ.T γ1 (s + 44) w1 x1 part.from (x.temps t) (MoveO part.from t) (Do (LocalO part.to k) c2) (spare γ1 (s + 52) (s + 44 + 8) w1 x1 (omega arith) h1) (low_free γ1 part.from (omega arith)) refl r (λ y hy ey rest.
+        sets S σ.T γ1 (s + 36) w1 y part.to value_at (LocalO part.to k) c2 (spare γ1 (s + 44) (s + 36 + 8) w1 y (omega arith) hy) (low_free γ1 part.to (omega arith)) (ap (λ q. to temporaries part.to q (spent 8 (mk w1 y))) (here w1 y (s + 44) hy)) r (λ z hz ez rest2.
+        copies S γ1 span 1 (omega arith) σ1 (s + 20) many few p value_at w1 z c3 (spare γ1 (s + 36) (s + 20 + 16) w1 z (omega arith) hz) (rest2 part.from refl ∙ ey ∙ ep) ez go (λ v u hu others.
+        local_set σ.T (s + 28) v u c (spare γ1 (s + 20 + 16) (s + 28 + 8) v u (omega arith) hu) (go v) (λ b hb eb rest3.
+        f v b hb eb (λ j five ne. rest3 j ne ∙ others j five ∙ rest2 j (eqb_more j part.to (omega (arith, five))) ∙ rest j (eqb_more j part.from (omega (arith, five))))))))
+
     pub structure_copied : (p : Cell) → x.temps t ≡ p → (go : World → σ.R) → ((v : World) (y : Side) → Now γ1 (s + 28) v y → y.temps t ≡ value_at → ((j : ℕ) → 5 ≤ j → eqb j t ≡ false → y.temps j ≡ x.temps j) → σ.T (go v) (R c (mk v y)))
         → σ.T (then_went σ.stop (cells_set span 1 S.bound size (Some p) (next_object w.store) (with_value size w)) go) (R (coded (part.structure_read size k t) c) (mk w x))
     structure_copied p ep go f =
-        let w1 : World = with_value size w in
-        let x1 : Side = taken i size w x in
-        let c3 : NodesT ℕ = Do (LocalO t k) c in
-        let c2 : NodesT ℕ = coded (part.copied size) c3 in
-        let r : σ.R = then_went σ.stop (cells_set span 1 S.bound size (Some p) value_at w1) go in
-        subst (σ.T r) (sym (taken_is i size k (Do (MoveO part.from t) (Do (LocalO part.to k) c2)) w x h.stays.fit at words le))
-        (sets S σ.T γ1 (s + 44) w1 x1 part.from (x.temps t) (MoveO part.from t) (Do (LocalO part.to k) c2) (spare γ1 (s + 52) (s + 44 + 8) w1 x1 (omega arith) (taken_now γ (s + 52) i size w x h le)) (low_free γ1 part.from (omega arith)) refl r (λ y hy ey rest.
-        sets S σ.T γ1 (s + 36) w1 y part.to value_at (LocalO part.to k) c2 (spare γ1 (s + 44) (s + 36 + 8) w1 y (omega arith) hy) (low_free γ1 part.to (omega arith)) (ap (λ q. to temporaries part.to q (spent 8 (mk w1 y))) (here w1 y (s + 44) hy)) r (λ z hz ez rest2.
-        copies S γ1 span 1 (omega arith) σ1 (s + 20) size few p value_at w1 z c3 (spare γ1 (s + 36) (s + 20 + 16) w1 z (omega arith) hz) (rest2 part.from refl ∙ ey ∙ ep) ez go (λ v u hu others.
-        sets S σ.T γ1 (s + 28) v u t value_at (LocalO t k) c (spare γ1 (s + 20 + 16) (s + 28 + 8) v u (omega arith) hu) free (ap (λ q. to temporaries t q (spent 8 (mk v u))) (here v u (s + 20 + 16) hu)) (go v) (λ b hb eb rest3.
-        f v b hb eb (λ j five ne. rest3 j ne ∙ others j five ∙ rest2 j (eqb_more j part.to (omega (arith, five))) ∙ rest j (eqb_more j part.from (omega (arith, five)))))))))
+        subst (σ.T (then_went σ.stop (cells_set span 1 S.bound size (Some p) value_at w1) go)) (sym (taken_is i size k (coded (part.local_filled size k t) c) w x h.stays.fit at words le)) (filled_copied size few p ep go f)

@@ -5,11 +5,11 @@ use Rattle.c_tree.specs.declared.operator.BinOp.{BinOp}
 use Rattle.c_tree.specs.declared.operator.BinOp.TheVariants as bin
 use Rattle.c_types.specs.Types.{Ty, VoidY, IntY, BoolY, EnumY, StructY, UnionY, PointerY, ArrayY}
 use Rattle.c_types.specs.Kinds.{is_structure, decayed, pointed, is_pointer}
-use Rattle.mid_code.specs.Code.{Stop, Do, Call, Choose, Block, Loop, Leave, Again, Return}
+use Rattle.mid_code.specs.Code.{LocalO, Stop, Do, Call, Choose, Block, Loop, Leave, Again, Return}
 use Rattle.mid_code.specs.Calls.{loops, CallsTo}
 use Rattle.lower_trees.specs.Shape.{Shape, words}
 use Rattle.lower_trees.specs.Pieces.{Nodes, coded}
-use Rattle.lower_trees.specs.Parts.{copied, zeroed, as_flag, converted, stored, with_word, stepped, with_pointer, operated_on, operated, one_more, one_less, tested_as, negated_as, made}
+use Rattle.lower_trees.specs.Parts.{copied, copied_between, copied_on, local_filled, zeroed, as_flag, converted, stored, with_word, stepped, with_pointer, operated_on, operated, one_more, one_less, tested_as, negated_as, made}
 
 -- how much a call of each function counts, and how much a loop
 pub record Counting : Type 0 where
@@ -83,6 +83,24 @@ module _ (k : Counting) where
   pub copied_tally : (size : ℕ) (c : Nodes) → k.loop ≡ 0 → tally k (coded (copied size) c) ≡ tally k c
   copied_tally zero c e = refl
   copied_tally (suc left) c e = omega (arith, e)
+
+  pub between_tally : (size p q : ℕ) (c : Nodes) → k.loop ≡ 0 → tally k (coded (copied_between size p q) c) ≡ tally k c
+  between_tally zero p q c e = refl
+  between_tally (suc zero) p q c e = refl
+  between_tally (suc (suc zero)) p q c e = omega (arith, e)
+  between_tally (suc (suc (suc left))) p q c e = copied_tally (suc (suc (suc left))) c e
+
+  pub copied_on_tally : (size p : ℕ) (c : Nodes) → k.loop ≡ 0 → tally k (coded (copied_on size p) c) ≡ tally k c
+  copied_on_tally zero p c e = refl
+  copied_on_tally (suc zero) p c e = refl
+  copied_on_tally (suc (suc zero)) p c e = omega (arith, e)
+  copied_on_tally (suc (suc (suc left))) p c e = copied_tally (suc (suc (suc left))) c e
+
+  pub local_tally : (size local t : ℕ) (c : Nodes) → k.loop ≡ 0 → tally k (coded (local_filled size local t) c) ≡ tally k c
+  local_tally zero local t c e = refl
+  local_tally (suc zero) local t c e = refl
+  local_tally (suc (suc zero)) local t c e = omega (arith, e)
+  local_tally (suc (suc (suc left))) local t c e = copied_tally (suc (suc (suc left))) (Do (LocalO t local) c) e
 
   pub zeroed_tally : (size : ℕ) (c : Nodes) → k.loop ≡ 0 → tally k (coded (zeroed size) c) ≡ tally k c
   zeroed_tally zero c e = refl
@@ -182,7 +200,7 @@ module _ (k : Counting) where
   negated_tally (ArrayY of n) t c = refl
 
   pub stored_tally : (h : Shape) (ty : Ty) (p a : ℕ) (c : Nodes) → Spared (is_structure ty) → tally k (coded (stored h ty p a) c) ≡ tally k c
-  stored_tally h ty p a c (inl e) = either_tally (is_structure ty) _ _ (tally k c) (copied_tally (words h ty) c e) refl
+  stored_tally h ty p a c (inl e) = either_tally (is_structure ty) _ _ (tally k c) (between_tally (words h ty) a p c e) refl
   stored_tally h ty p a c (inr s) = rw s refl
 
   pub made_tally : (objects : List ℕ) (c : Nodes) → tally k (coded (made objects) c) ≡ tally k c

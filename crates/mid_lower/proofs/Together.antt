@@ -16,13 +16,13 @@ use Rattle.lower_trees.specs.Statements.{ToEnd}
 use Rattle.lower_trees.specs.Lowered.{received, all_received, first_of, low_body, low_function}
 use Rattle.lower_trees.specs.Counts.{stmts_sizes}
 use Rattle.mid_lower.proofs.TogetherPaths.{Frames, Leads, here, doing, into_block, Expected, Reaching, led, all_made}
-use Rattle.mid_lower.proofs.TogetherExpressions.{copied_leads, either_leads}
+use Rattle.mid_lower.proofs.TogetherExpressions.{copied_on_leads, either_leads}
 use Rattle.mid_lower.proofs.TogetherPoints.{stmts_reaches}
 
 -- ---- one path through the code that makes them all
 
 received_leads : (h : Shape) (ty : Ty) (k a : ℕ) (c : Nodes) (fs : Frames) (q : Point ℕ) → Leads (at fs c) q → Leads (at fs (coded (received h ty k a) c)) q
-received_leads h ty k a c fs q l = either_leads (is_structure ty) _ _ fs q (doing tt (doing tt (copied_leads (words h ty) c fs q l))) (doing tt (doing tt l))
+received_leads h ty k a c fs q l = either_leads (is_structure ty) _ _ fs q (doing tt (copied_on_leads (words h ty) a c fs q l)) (doing tt (doing tt l))
 
 all_received_leads : (h : Shape) (tys : List Ty) (k a : ℕ) (c : Nodes) (fs : Frames) (q : Point ℕ) → Leads (at fs c) q → Leads (at fs (coded (all_received h tys k a) c)) q
 all_received_leads h [] k a c fs q l = l

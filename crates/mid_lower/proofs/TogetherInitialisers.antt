@@ -12,7 +12,7 @@ use Rattle.lower_trees.specs.Parts.{item}
 use Rattle.lower_trees.specs.Initialisers.{part_at, cell_filled, part_filled, part_zeroed, low_text, low_rest, low_init, low_inits, address_of, object_to, low_vars}
 use Rattle.lower_trees.specs.Counts.{init_temps, init_sizes, behind_address}
 use Rattle.mid_lower.proofs.TogetherPaths.{Frames, Leads, doing}
-use Rattle.mid_lower.proofs.TogetherExpressions.{copied_leads, zeroed_leads, either_leads, converted_leads, low_value_passes}
+use Rattle.mid_lower.proofs.TogetherExpressions.{copied_leads, copied_on_leads, zeroed_leads, either_leads, converted_leads, low_value_passes}
 
 part_at_leads : (p offset : ℕ) (c : Nodes) (fs : Frames) (q : Point ℕ) → Leads (at fs c) q → Leads (at fs (coded (part_at p offset) c)) q
 part_at_leads p zero c fs q l = doing tt l
@@ -24,7 +24,7 @@ cell_leads p (suc offset) c fs q l = doing tt (doing tt (doing tt l))
 
 part_leads : (h : Shape) (ty : Ty) (p offset : ℕ) (c : Nodes) (fs : Frames) (q : Point ℕ) → Leads (at fs c) q → Leads (at fs (coded (part_filled h ty p offset) c)) q
 part_leads h ty p offset c fs q l =
-    either_leads (is_structure ty) _ _ fs q (doing tt (part_at_leads p offset _ fs q (copied_leads (words h ty) c fs q l))) (cell_leads p offset c fs q l)
+    either_leads (is_structure ty) _ _ fs q (part_at_leads p offset _ fs q (copied_on_leads (words h ty) item c fs q l)) (cell_leads p offset c fs q l)
 
 zero_part_leads : (p offset size : ℕ) (c : Nodes) (fs : Frames) (q : Point ℕ) → Leads (at fs c) q → Leads (at fs (coded (part_zeroed p offset size) c)) q
 zero_part_leads p offset zero c fs q l = l

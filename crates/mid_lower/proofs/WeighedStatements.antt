@@ -15,14 +15,14 @@ use Rattle.mid_code.specs.Functions.{DoN, ChooseN, BlockN, LeaveN, AgainN, Retur
 use Rattle.lower_trees.specs.Shape.{Shape, shape, words, literal_words}
 use Rattle.lower_trees.specs.Flags.{is_flag}
 use Rattle.lower_trees.specs.Pieces.{Piece, listing}
-use Rattle.lower_trees.specs.Parts.{one, from, to, item, other, result_at, param_at, first_param, copied, zeroed, converted, made}
+use Rattle.lower_trees.specs.Parts.{one, from, to, item, other, result_at, param_at, first_param, copied, copied_between, copied_on, zeroed, converted, made}
 use Rattle.lower_trees.specs.Expressions.{second, beyond, low_value, low_test}
 use Rattle.lower_trees.specs.Initialisers.{address_of, part_at, cell_filled, part_filled, part_zeroed, low_text, low_rest, low_init, low_inits, object_to, low_vars}
 use Rattle.lower_trees.specs.Statements.{Jump, ToEnd, ToTurn, further, labels_before_default, jump, tested_first, chosen_by, low_dropped, turn_of, turns, low_match, low_label, returned, low_stmt, low_other, low_stmts, low_arms, low_group}
 use Rattle.lower_trees.specs.Lowered.{first_of, lowered, received, all_received}
 use Rattle.lower_trees.specs.ListedFunctions.{low_function, low_start}
 use Rattle.lower_trees.specs.Counts.{init_temps, init_sizes, behind_address, maybe_temps, stmt_temps, other_temps, maybe_sizes, stmt_sizes, other_sizes}
-use Rattle.mid_lower.proofs.Weights.{weigh, both, three, four, copied_weighs, converted_weighs, made_weighs, zeroed_weighs}
+use Rattle.mid_lower.proofs.Weights.{weigh, both, three, four, copied_weighs, between_weighs, copied_on_weighs, converted_weighs, made_weighs, zeroed_weighs}
 use Rattle.mid_lower.proofs.WeighedExpressions.{value_weighs, test_weighs}
 use Rattle.mid_lower.proofs.ProgramsListed.{inits_nodes, lowered_by}
 
@@ -36,14 +36,14 @@ cell_weighs : (p offset : ℕ) → weigh (listing (cell_filled p offset)) ≤ 24
 cell_weighs p zero = omega arith
 cell_weighs p (suc offset) = omega arith
 
-filled_weighs : (h : Shape) (ty : Ty) (p offset : ℕ) → weigh (listing (part_filled h ty p offset)) ≤ 104
+filled_weighs : (h : Shape) (ty : Ty) (p offset : ℕ) → weigh (listing (part_filled h ty p offset)) ≤ 112
 filled_weighs h ty p offset = by (is_structure ty)
   where
-    by : (b : Bool) → weigh (if b then (DoN (o.Move from item) ∷ []) ++ listing (part_at p offset) ++ listing (copied (words h ty)) else listing (cell_filled p offset)) ≤ 104
+    by : (b : Bool) → weigh (if b then listing (part_at p offset) ++ listing (copied_on (words h ty) item) else listing (cell_filled p offset)) ≤ 112
     by true =
-        let e = three (DoN (o.Move from item) ∷ []) (listing (part_at p offset)) (listing (copied (words h ty))) in
+        let e = both (listing (part_at p offset)) (listing (copied_on (words h ty) item)) in
         let f = at_weighs p offset in
-        let g = copied_weighs (words h ty) in
+        let g = copied_on_weighs (words h ty) item in
         omega (arith, e, f, g)
     by false = let e = cell_weighs p offset in omega (arith, e)
 
@@ -115,10 +115,10 @@ jump_weighs (ToTurn k) = omega arith
 returned_weighs : (h : Shape) (ty : Ty) (t : ℕ) → weigh (listing (returned h ty t)) ≤ 104
 returned_weighs h ty t = by (is_structure ty)
   where
-    by : (b : Bool) → weigh (if b then (DoN (o.Move from t) ∷ DoN (o.Move to result_at) ∷ []) ++ listing (copied (words h ty)) ++ (ReturnN None ∷ []) else ReturnN (Some t) ∷ []) ≤ 104
+    by : (b : Bool) → weigh (if b then listing (copied_between (words h ty) t result_at) ++ (ReturnN None ∷ []) else ReturnN (Some t) ∷ []) ≤ 104
     by true =
-        let e = three (DoN (o.Move from t) ∷ DoN (o.Move to result_at) ∷ []) (listing (copied (words h ty))) (ReturnN None ∷ []) in
-        let f = copied_weighs (words h ty) in
+        let e = both (listing (copied_between (words h ty) t result_at)) (ReturnN None ∷ []) in
+        let f = between_weighs (words h ty) t result_at in
         omega (arith, e, f)
     by false = omega arith
 
@@ -258,14 +258,14 @@ mutual
 
 -- ---- functions
 
-received_weighs : (h : Shape) (ty : Ty) (k a : ℕ) → weigh (listing (received h ty k a)) ≤ 96
+received_weighs : (h : Shape) (ty : Ty) (k a : ℕ) → weigh (listing (received h ty k a)) ≤ 104
 received_weighs h ty k a = by (is_structure ty)
   where
-    by : (b : Bool) → weigh (if b then (DoN (o.Move from a) ∷ DoN (o.Local to k) ∷ []) ++ listing (copied (words h ty)) else DoN (o.Local (param_at k) k) ∷ DoN (o.Store (param_at k) a) ∷ []) ≤ 96
-    by true = let e = both (DoN (o.Move from a) ∷ DoN (o.Local to k) ∷ []) (listing (copied (words h ty))) in let f = copied_weighs (words h ty) in omega (arith, e, f)
+    by : (b : Bool) → weigh (if b then (DoN (o.Local to k) ∷ []) ++ listing (copied_on (words h ty) a) else DoN (o.Local (param_at k) k) ∷ DoN (o.Store (param_at k) a) ∷ []) ≤ 104
+    by true = let e = both (DoN (o.Local to k) ∷ []) (listing (copied_on (words h ty) a)) in let f = copied_on_weighs (words h ty) a in omega (arith, e, f)
     by false = omega arith
 
-params_weigh : (h : Shape) (tys : List Ty) (k a : ℕ) → weigh (listing (all_received h tys k a)) ≤ 96 * length tys
+params_weigh : (h : Shape) (tys : List Ty) (k a : ℕ) → weigh (listing (all_received h tys k a)) ≤ 104 * length tys
 params_weigh h [] k a = omega arith
 params_weigh h (ty ∷ tys) k a =
     let e = both (listing (received h ty k a)) (listing (all_received h tys (k + 1) (a + 1))) in

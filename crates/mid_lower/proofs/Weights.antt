@@ -12,7 +12,7 @@ use Rattle.mid_code.specs.Functions.{NodeT, DoN, ChooseN, BlockN, LoopN, LeaveN,
 use Rattle.v32_isa.specs.declared.instruction.One.TheVariants.{ISGN}
 use Rattle.v32_isa.specs.declared.instruction.Two.TheVariants.{IMUL}
 use Rattle.lower_trees.specs.Pieces.{Listing, listing}
-use Rattle.lower_trees.specs.Parts.{copied, zeroed, moved_by, structure_read, as_flag, converted, stored, with_word, stepped, stepped_back, distant, with_pointer, operated_on, operated, one_more, one_less, tested_as, negated_as, made}
+use Rattle.lower_trees.specs.Parts.{copied, copied_between, copied_on, zeroed, moved_by, structure_read, as_flag, converted, stored, with_word, stepped, stepped_back, distant, with_pointer, operated_on, operated, one_more, one_less, tested_as, negated_as, made}
 use Rattle.lower_trees.specs.Shape.{Shape, words}
 
 abbrev pub weigh : Listing → ℕ
@@ -71,14 +71,26 @@ pub copied_weighs : (size : ℕ) → weigh (listing (copied size)) ≤ 80
 copied_weighs zero = omega arith
 copied_weighs (suc left) = omega arith
 
+pub between_weighs : (size p q : ℕ) → weigh (listing (copied_between size p q)) ≤ 96
+between_weighs zero p q = omega arith
+between_weighs (suc zero) p q = omega arith
+between_weighs (suc (suc zero)) p q = omega arith
+between_weighs (suc (suc (suc left))) p q = omega arith
+
+pub copied_on_weighs : (size p : ℕ) → weigh (listing (copied_on size p)) ≤ 96
+copied_on_weighs zero p = omega arith
+copied_on_weighs (suc zero) p = omega arith
+copied_on_weighs (suc (suc zero)) p = omega arith
+copied_on_weighs (suc (suc (suc left))) p = omega arith
+
 pub moved_weighs : (t p offset : ℕ) → weigh (listing (moved_by t p offset)) ≤ 16
 moved_weighs t p offset = omega arith
 
 pub read_weighs : (size k t : ℕ) → weigh (listing (structure_read size k t)) ≤ 104
-read_weighs size k t =
-    let e = three (DoN (o.Fresh k) ∷ DoN (o.Move 3 t) ∷ DoN (o.Local 4 k) ∷ []) (listing (copied size)) (DoN (o.Local t k) ∷ []) in
-    let f = copied_weighs size in
-    omega (arith, e, f)
+read_weighs zero k t = omega arith
+read_weighs (suc zero) k t = omega arith
+read_weighs (suc (suc zero)) k t = omega arith
+read_weighs (suc (suc (suc left))) k t = omega arith
 
 pub flag_weighs : (known : Bool) (t : ℕ) → weigh (listing (as_flag known t)) ≤ 8
 flag_weighs true t = omega arith
@@ -94,16 +106,13 @@ converted_weighs (UnionY k) known t = omega arith
 converted_weighs (PointerY to) known t = omega arith
 converted_weighs (ArrayY of len) known t = omega arith
 
-structure_weighs : (size p a : ℕ) → weigh ((DoN (o.Move 3 a) ∷ DoN (o.Move 4 p) ∷ []) ++ listing (copied size)) ≤ 96
-structure_weighs size p a = let e = both (DoN (o.Move 3 a) ∷ DoN (o.Move 4 p) ∷ []) (listing (copied size)) in let f = copied_weighs size in omega (arith, e, f)
-
 pub stored_weighs : (h : Shape) (ty : Ty) (p a : ℕ) → weigh (listing (stored h ty p a)) ≤ 96
 stored_weighs h VoidY p a = omega arith
 stored_weighs h IntY p a = omega arith
 stored_weighs h BoolY p a = omega arith
 stored_weighs h (EnumY k) p a = omega arith
-stored_weighs h (StructY k) p a = structure_weighs (words h (StructY k)) p a
-stored_weighs h (UnionY k) p a = structure_weighs (words h (UnionY k)) p a
+stored_weighs h (StructY k) p a = between_weighs (words h (StructY k)) a p
+stored_weighs h (UnionY k) p a = between_weighs (words h (UnionY k)) a p
 stored_weighs h (PointerY to) p a = omega arith
 stored_weighs h (ArrayY of len) p a = omega arith
 

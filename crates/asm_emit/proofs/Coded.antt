@@ -5,7 +5,7 @@ use Rattle.std.specs.List.{AllByRecursion}
 use Rattle.either.specs.declared.Either.TheVariants.{Left}
 use Rattle.v32_isa.specs.declared.instruction.Plain.TheVariants.{RET}
 use Rattle.v32_isa.specs.declared.instruction.One.{One}
-use Rattle.v32_isa.specs.declared.instruction.Mov.TheVariants.{RegAt, RegAtOff, AtReg, AtOffReg}
+use Rattle.v32_isa.specs.declared.instruction.Mov.TheVariants.{RegImm, RegAt, RegAtOff, AtReg, AtOffReg}
 use Rattle.v32_isa.specs.declared.instruction.Two.{Two}
 use Rattle.v32_isa.specs.declared.instruction.Two.TheVariants.{IADD, ISUB}
 use Rattle.v32_isa.specs.declared.instruction.Src.TheVariants as src
@@ -26,6 +26,7 @@ use Rattle.asm_laws.specs.declared.behind.Behind.TheVariants.{Other, End, Turn}
 use Rattle.asm_laws.specs.inner.Emitted.{labels, jump, jump_unless, mark, first_part, second_part, choice, alone, left_to, ends, jump_when, is_stop, enclosed, leaving, left_by, items_past, code_items, call_item, own_items, exit_items, inside, is_end, is_turn, again, rotated, looped, is_tested, part_items, test_items, enclosing}
 use Rattle.asm_emit.specs.EmittedFrom.{IsCode}
 use Rattle.asm_laws.specs.declared.copying.Copying.{Copying}
+use Rattle.asm_laws.specs.Asks.{ask_of, ask_or}
 use Rattle.asm_laws.specs.Copies.{put_into, goes_to, move_items, copy_items, copy_at, copy_or}
 use Rattle.asm_laws.specs.Live.{live_soon, ahead, asked_behind}
 use Rattle.asm_laws.proofs.Putting.{unless_is, moves_are, backs_are}
@@ -150,7 +151,7 @@ module _ (W : Whole) (F : Frame) where
   taking_code _ h = absurd h
 
   one_or_more_code : (o : OpT Where) (c : NodesT Where) → AreCode (one_or_more W F o (in_one W F o c))
-  one_or_more_code o c = one_or_more_is W F AreCode (λ v. Unit {0}) o c (λ t n e. (tt, tt, λ x y. tt)) (λ t k e. (tt, tt, λ x y. tt)) (op_code o) taking_code (λ p r i lt h. (fetch_code F p r, taking_code i h), λ r q i lr lq h. (tt, taking_code i h))
+  one_or_more_code o c = one_or_more_is W F AreCode (λ v. Unit {0}) o c (λ t n e. (tt, tt, λ x y. tt)) (λ t k e. (tt, tt, λ x y. tt)) (λ t k e x y. tt) (op_code o) taking_code (λ p r i lt h. (fetch_code F p r, taking_code i h), λ r q i lr lq h. (tt, taking_code i h))
 
   word_code : (y : Copying) (o : OpT Where) → AreCode (word_items W F y o)
   word_code y (ConstO (Reg r) n) = (tt, tt)
@@ -175,7 +176,7 @@ module _ (W : Whole) (F : Frame) where
   puts_code y j (Return p c) k = tt
 
   group_code : (o : OpT Where) (c : NodesT Where) → AreCode (group_items W F o c)
-  group_code o c = group_is W F AreCode o c (one_or_more_code o c) (λ k y e. joined (puts_items W F y (asked_behind F.lasting c y.one) (Do o c) k) (move_items y (Do o c)) (puts_code y (asked_behind F.lasting c y.one) (Do o c) k) (moves_are AreCode tt joined (λ t r. (tt, tt)) y (Do o c)))
+  group_code o c = group_is W F AreCode o c tt (one_or_more_code o c) (λ k y e. joined (puts_items W F y (asked_behind F.lasting c y.one) (Do o c) k) (move_items y (Do o c)) (puts_code y (asked_behind F.lasting c y.one) (Do o c) k) (moves_are AreCode tt joined (λ t r. (tt, tt)) y (Do o c)))
 
   next_code : (o : OpT Where) (c : NodesT Where) → AreCode (next_items W F o c)
   next_code o c =
@@ -188,6 +189,10 @@ module _ (W : Whole) (F : Frame) where
   copied_code : (y : Option Copying) (J : ℕ → Bool) (xs : List AsmItem) → AreCode xs → AreCode (copy_or y J xs)
   copied_code None J xs h = h
   copied_code (Some y) J xs h = copy_code y J
+
+  asked_code : (y : Option ℕ) (J : ℕ → Bool) (xs : List AsmItem) → AreCode xs → AreCode (ask_or y J xs)
+  asked_code None J xs h = h
+  asked_code (Some f) J xs h = either (J f) (item.Op (instr.Mov (RegImm (register f) (Left 0))) ∷ []) [] (tt, tt) tt
 
   call_code : (t : Option Where) (g : ℕ) (args : List Where) → AreCode (call_items W F t g args)
   call_code t g args =
@@ -261,8 +266,9 @@ module _ (W : Whole) (F : Frame) where
           let part = part_items W F out (ls ++ n ∷ []) (n + 2) b in
           let test = test_items W F out (n + 2) b 0 in
           let asked = live_soon ahead F.lasting c in
-          joined (copy_or (copy_at done b) asked (looped (is_tested b) n all part test)) (items_past W F out last ls (n + (2 + labels b)) c 0)
-          (copied_code (copy_at done b) asked (looped (is_tested b) n all part test) (either (is_tested b) (rotated n part test) (enclosed n all) (rotated_code n part test (part_code b (ls ++ n ∷ []) (n + 2)) (test_code (n + 2) b 0)) (enclosed_code n all (past_code b 0 (inside (ends last c)) (ls ++ n ∷ []) (n + 2)))))
+          let turns = looped (is_tested b) n all part test in
+          joined (ask_or (ask_of b) asked (copy_or (copy_at done b) asked turns)) (items_past W F out last ls (n + (2 + labels b)) c 0)
+          (asked_code (ask_of b) asked (copy_or (copy_at done b) asked turns) (copied_code (copy_at done b) asked turns (either (is_tested b) (rotated n part test) (enclosed n all) (rotated_code n part test (part_code b (ls ++ n ∷ []) (n + 2)) (test_code (n + 2) b 0)) (enclosed_code n all (past_code b 0 (inside (ends last c)) (ls ++ n ∷ []) (n + 2))))))
           (past_code c 0 last ls (n + (2 + labels b)))
       past_code (Leave k c) done last ls n = (tt, past_code c 0 last ls n)
       past_code (Again k c) done last ls n =

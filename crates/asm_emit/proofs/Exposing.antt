@@ -10,9 +10,10 @@ use Rattle.mid_code.specs.Functions.{op_before, NodeT, DoN, ChooseN, BlockN, Loo
 use Rattle.mid_code.specs.Operands.{op_uses, op_target}
 use Rattle.asm_laws.specs.declared.copying.Copying.{Copying}
 use Rattle.asm_laws.specs.Copies.{lead, copy_of}
-use Rattle.asm_laws.specs.Live.{is_read, is_put, is_among, copy_reads, live_at_copy, live_soon, leads_by, exposed, lasts}
+use Rattle.asm_laws.specs.Asks.{ask_of}
+use Rattle.asm_laws.specs.Live.{is_read, is_put, is_among, copy_reads, live_at_copy, live_at_loop, live_soon, leads_by, exposed, lasts}
 use Rattle.asm_emit.specs.inner.Listed.{is_call, led_asked}
-use Rattle.asm_emit.specs.inner.Lasting.{told, told_by_copy, told_by_op, inward}
+use Rattle.asm_emit.specs.inner.Lasting.{told, told_by_copy, told_by_loop, told_by_op, inward}
 
 -- ---- live registers
 
@@ -63,8 +64,12 @@ by_one : (n : ℕ) (h : List Bool) (x : NodeT Where) (c : NodesT Where) (r : ℕ
 by_one n h (DoN o) c r = op_told n h o c r
 by_one n h (ChooseN p a b) c r = refl
 by_one n h (BlockN b) c r = refl
-by_one n h (LoopN b) c r = first (lasts h r) (copy_of (joined b))
+by_one n h (LoopN b) c r = whole (ask_of (joined b))
   where
+    asked : (put behind : Bool) → not put && behind ≡ told_or (cond put (Some false) None) behind
+    asked true behind = refl
+    asked false behind = refl
+
     copied : (reads put behind : Bool) → reads || (not put && behind) ≡ told_or (cond reads (Some true) (cond put (Some false) None)) behind
     copied true put behind = refl
     copied false true behind = refl
@@ -74,6 +79,11 @@ by_one n h (LoopN b) c r = first (lasts h r) (copy_of (joined b))
     first true y = refl
     first false None = refl
     first false (Some y) = copied (copy_reads y r) (r == y.cell) (live_soon n h c r)
+
+    whole : (a : Option ℕ) → live_at_loop a r (live_soon n h c r) (lasts h r || live_at_copy (copy_of (joined b)) r (live_soon n h c r)) ≡
+        told_or (told_by_loop a r (cond (lasts h r) (Some true) (told_by_copy (copy_of (joined b)) r))) (live_soon n h c r)
+    whole None = first (lasts h r) (copy_of (joined b))
+    whole (Some f) = asked (r == f) (live_soon n h c r)
 by_one n h (LeaveN k) c r = refl
 by_one n h (AgainN k) c r = refl
 by_one n h (ReturnN p) c r = refl

@@ -167,7 +167,7 @@ module _ (names : List (List ℕ)) (body : NodesT Where) where
 
     one_or_more_ahead : (o : OpT Where) (c : NodesT Where) (later : List AsmItem) → IsOp x m o → Ahead (one_or_more W F o (in_one W F o c)) later
     one_or_more_ahead o c later ok =
-        one_or_more_is W F (λ xs. Ahead xs later) (λ v. Unit {0}) o c (λ t n e. (tt, tt, λ x y. tt)) (λ t k e. (tt, tt, λ x y. tt)) (op_ahead o later ok) (taking_ahead later) (λ p r i lt h. (fetch_ahead F p r _, taking_ahead later i h), λ r q i lr lq h. (tt, taking_ahead later i h))
+        one_or_more_is W F (λ xs. Ahead xs later) (λ v. Unit {0}) o c (λ t n e. (tt, tt, λ x y. tt)) (λ t k e. (tt, tt, λ x y. tt)) (λ t k e x y. tt) (op_ahead o later ok) (taking_ahead later) (λ p r i lt h. (fetch_ahead F p r _, taking_ahead later i h), λ r q i lr lq h. (tt, taking_ahead later i h))
 
     word_go : (y : Copying) (o : OpT Where) (later : List AsmItem) → Ahead (word_items W F y o) later
     word_go y (ConstO (Reg r) n) later = (tt, tt)
@@ -203,7 +203,7 @@ module _ (names : List (List ℕ)) (body : NodesT Where) where
         ahead_append a (b ++ d) later (move_go (is_put y.to false c) 13 y.to _) (ahead_append b d later (move_go (source_put y.from false c) 12 (source y.from y) _) (move_go (is_put y.count false c) 11 y.count later))
 
     group_ahead : (o : OpT Where) (c : NodesT Where) (later : List AsmItem) → IsOp x m o → Ahead (group_items W F o c) later
-    group_ahead o c later ok = group_is W F (λ xs. Ahead xs later) o c (one_or_more_ahead o c later ok) (λ k y e. ahead_append (puts_items W F y (asked_behind F.lasting c y.one) (Do o c) k) (move_items y (Do o c)) later (puts_go y (asked_behind F.lasting c y.one) (Do o c) k _) (moves_go y (Do o c) later))
+    group_ahead o c later ok = group_is W F (λ xs. Ahead xs later) o c tt (one_or_more_ahead o c later ok) (λ k y e. ahead_append (puts_items W F y (asked_behind F.lasting c y.one) (Do o c) k) (move_items y (Do o c)) later (puts_go y (asked_behind F.lasting c y.one) (Do o c) k _) (moves_go y (Do o c) later))
 
     next_ahead : (o : OpT Where) (c : NodesT Where) (later : List AsmItem) → IsOp x m o → Ahead (next_items W F o c) later
     next_ahead o c later ok =

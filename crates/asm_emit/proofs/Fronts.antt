@@ -2,11 +2,14 @@
 use Rattle.std.proofs.Common.{◌≡◌, ℕ, zero, suc, ◌-◌, ◌++◌, arith, Bool, true, false, cond, List, [], ◌∷◌, Option, Some, None, refl, sym, ap, ◌∙◌, append_assoc}
 use Rattle.std.specs.Prelude.{◌==◌}
 use Rattle.std.proofs.lemmas.Bool.Decides.{nat_tests}
+use Rattle.v32_isa.specs.declared.instruction.Instr.{Instr}
 use Rattle.v32_isa.specs.declared.instruction.Instr.TheVariants as instr
+use Rattle.asm_items.specs.Items.{Imm}
 use Rattle.asm_items.specs.declared.item.AsmItem.{AsmItem}
 use Rattle.asm_items.specs.declared.item.AsmItem.TheVariants as item
 use Rattle.asm_laws.specs.declared.copying.Copying.{Copying}
 use Rattle.asm_laws.specs.Copies.{lead, is_put, source, source_put, move_item, move_items, block_of, back_items, copy_items}
+use Rattle.asm_laws.specs.Asks.{is_unread}
 use Rattle.mid_code.specs.declared.placed.Where.{Where}
 use Rattle.mid_code.specs.declared.node.Op.{Op}
 use Rattle.mid_code.specs.declared.node.Op.TheVariants as op
@@ -14,8 +17,9 @@ use Rattle.mid_code.specs.Code.{OpT, ConstO, NullO, MoveO, OneO, TwoO, GlobalO, 
 use Rattle.mid_code.specs.Functions.{op_before, NodeT, DoN, ChooseN, BlockN, LoopN, LeaveN, AgainN, ReturnN, ListT, NoN, MoreN, before, joined}
 use Rattle.asm_laws.specs.declared.made.Made.{Made}
 use Rattle.asm_laws.specs.Spare.{operand}
-use Rattle.asm_laws.specs.Operations.{Frame, Whole, word_put, is_spared, with_known, in_one, put_items, puts_items, given_first, made_both, made_known, made_with, first_made, made_of, made_or}
-use Rattle.asm_emit.specs.inner.Listed.{led_asked, front_put, front_summed, ahead_items, ahead_more, is_call, op_made, more_ahead, front_items, front_more, labels_due, led_ahead, led_behind, put_here, left_behind, puts_from, put_first, left_after, list_puts}
+use Rattle.asm_laws.specs.Accesses.{accessed}
+use Rattle.asm_laws.specs.Operations.{Frame, Whole, word_put, is_spared, with_known, with_next, with_access, in_one, put_items, puts_items, given_first, made_both, made_known, made_with, first_made, made_of, made_or}
+use Rattle.asm_emit.specs.inner.Listed.{led_asked, front_put, front_summed, front_one, ahead_items, ahead_more, is_call, op_made, more_ahead, front_items, front_more, labels_due, led_ahead, led_behind, put_here, left_behind, puts_from, put_first, left_after, list_puts}
 
 pub none_due : (k : Option ℕ) → labels_due k 0 ≡ 0
 none_due None = refl
@@ -43,41 +47,44 @@ none_known gs F None = refl
 none_known gs F (Some (r, w)) = both (is_spared F (Some (r, w))) None
 
 module _ (W : Whole) (F : Frame) where
-  summed : (o : OpT Where) (c : NodesT Where) → in_one W F o c ≡ front_summed W.globals F (word_put W o) c
+  next_summed : (o : OpT Where) (c : NodesT Where) → with_next W F o c ≡ front_summed W.globals F (word_put W o) c
+  next_summed o (Do p c) = refl
+  next_summed o _ = none_known W.globals F (word_put W o)
+
+  summed : (o : OpT Where) (c : NodesT Where) → in_one W F o c ≡ front_one W F (Do o Stop) c
   unfolding in_one
-  summed o (Do p c) = refl
-  summed o _ = none_known W.globals F (word_put W o)
+  summed o c = ap (λ x. with_access F (accessed F.lasting F.registers o c) x) (next_summed o c)
 
   -- what stands ahead, and how much is done with it
-  abbrev pub led_front : Option (ℕ × ℕ) → NodesT Where → NodesT Where → Option (ℕ × Copying) → List AsmItem
-  led_front put first c None = ahead_items (front_summed W.globals F put c)
-  led_front put first c (Some (j, y)) = puts_items W F y (led_asked F.lasting c y.one) first j ++ move_items y first
+  abbrev pub led_front : Option (ℕ × Option (Instr Imm) × Instr Imm) → NodesT Where → NodesT Where → Option (ℕ × Copying) → List AsmItem
+  led_front one first c None = ahead_items one
+  led_front one first c (Some (j, y)) = puts_items W F y (led_asked F.lasting c y.one) first j ++ move_items y first
 
-  abbrev pub led_count : Option (ℕ × ℕ) → NodesT Where → Option (ℕ × Copying) → Option ℕ
-  led_count put c None = ahead_more (front_summed W.globals F put c)
-  led_count put c (Some (j, y)) = Some j
+  abbrev pub led_count : Option (ℕ × Option (Instr Imm) × Instr Imm) → NodesT Where → Option (ℕ × Copying) → Option ℕ
+  led_count one c None = ahead_more one
+  led_count one c (Some (j, y)) = Some j
 
-  record Fronts (first : NodesT Where) (made : Option (ℕ × Made)) (put : Option (ℕ × ℕ)) (call : Bool) (c : NodesT Where) : Type 0 where
-    items : (k : ℕ) → front_items W F first k ≡ cond (k == 0) (made_or F made (led_front put first c (lead first))) []
-    more : (k : ℕ) → front_more W F first k ≡ cond (k == 0) (more_ahead made (led_count put c (lead first))) (cond call None (Some (k - 1)))
+  record Fronts (first : NodesT Where) (made : Option (ℕ × Made)) (one : Option (ℕ × Option (Instr Imm) × Instr Imm)) (call : Bool) (c : NodesT Where) : Type 0 where
+    items : (k : ℕ) → front_items W F first k ≡ cond (k == 0) (made_or F made (cond (is_unread first) [] (led_front one first c (lead first)))) []
+    more : (k : ℕ) → front_more W F first k ≡ cond (k == 0) (more_ahead made (cond (is_unread first) (Some 0) (led_count one c (lead first)))) (cond call None (Some (k - 1)))
 
-  led_same : (o : OpT Where) (c : NodesT Where) (x : Option (ℕ × Copying)) → led_ahead W F o c x ≡ led_front (word_put W o) (Do o c) c x
+  led_same : (o : OpT Where) (c : NodesT Where) (x : Option (ℕ × Copying)) → led_ahead W F o c x ≡ led_front (front_one W F (Do o Stop) c) (Do o c) c x
   led_same o c None = ap ahead_items (summed o c)
   led_same o c (Some (j, y)) = refl
 
-  count_same : (o : OpT Where) (c : NodesT Where) (x : Option (ℕ × Copying)) → led_behind W F o c x ≡ led_count (word_put W o) c x
+  count_same : (o : OpT Where) (c : NodesT Where) (x : Option (ℕ × Copying)) → led_behind W F o c x ≡ led_count (front_one W F (Do o Stop) c) c x
   count_same o c None = ap ahead_more (summed o c)
   count_same o c (Some (j, y)) = refl
 
-  plain_fronts : (o : OpT Where) (c : NodesT Where) → Fronts (Do o c) (first_made (made_both o (given_first c)) (made_with F (word_put W o) c)) (word_put W o) false c
+  plain_fronts : (o : OpT Where) (c : NodesT Where) → Fronts (Do o c) (first_made (made_both o (given_first c)) (made_with F (word_put W o) c)) (front_one W F (Do o Stop) c) false c
   unfolding made_of
   plain_fronts o c = record {
-    items = λ k. ap (λ r. cond (k == 0) (made_or F (first_made (made_both o (given_first c)) (made_with F (word_put W o) c)) r) []) (led_same o c (lead (Do o c)));
-    more = λ k. ap (λ r. cond (k == 0) (more_ahead (first_made (made_both o (given_first c)) (made_with F (word_put W o) c)) r) (Some (k - 1))) (count_same o c (lead (Do o c)));
+    items = λ k. ap (λ r. cond (k == 0) (made_or F (first_made (made_both o (given_first c)) (made_with F (word_put W o) c)) (cond (is_unread (Do o c)) [] r)) []) (led_same o c (lead (Do o c)));
+    more = λ k. ap (λ r. cond (k == 0) (more_ahead (first_made (made_both o (given_first c)) (made_with F (word_put W o) c)) (cond (is_unread (Do o c)) (Some 0) r)) (Some (k - 1))) (count_same o c (lead (Do o c)));
   }
 
-  call_fronts : {t : Option Where} {f : ℕ} {args : List Where} (c : NodesT Where) → Fronts (Call t f args c) (made_with F None c) None true c
-  unfolding lead
+  call_fronts : {t : Option Where} {f : ℕ} {args : List Where} (c : NodesT Where) → Fronts (Call t f args c) (made_with F None c) (front_summed W.globals F None c) true c
+  unfolding lead is_unread
   call_fronts c =
       let m = sym (none_made F c) in
       let r = sym (none_summed W.globals F c) in
@@ -86,7 +93,7 @@ module _ (W : Whole) (F : Frame) where
         more = λ k. both (k == 0) None ∙ (λ i. cond (k == 0) (more_ahead (m i) (ahead_more (r i))) None);
       }
 
-  fronts : (o : Op Where) (c : NodesT Where) → Fronts (op_before o c) (op_made W F o c) (front_put W (op_before o Stop)) (is_call o) c
+  fronts : (o : Op Where) (c : NodesT Where) → Fronts (op_before o c) (op_made W F o c) (front_one W F (op_before o Stop) c) (is_call o) c
   fronts (op.Const t word) c = plain_fronts (ConstO t word) c
   fronts (op.Null t) c = plain_fronts (NullO t) c
   fronts (op.Move t a) c = plain_fronts (MoveO t a) c
@@ -109,11 +116,17 @@ module _ (W : Whole) (F : Frame) where
   fronts op.Wait c = plain_fronts WaitO c
   fronts op.Halt c = plain_fronts HaltO c
 
-  pub items_of_front : (o : Op Where) (c : NodesT Where) (k : ℕ) → front_items W F (op_before o c) k ≡ cond (k == 0) (made_or F (op_made W F o c) (led_front (front_put W (op_before o Stop)) (op_before o c) c (lead (op_before o c)))) []
+  pub items_of_front : (o : Op Where) (c : NodesT Where) (k : ℕ) → front_items W F (op_before o c) k ≡ cond (k == 0) (made_or F (op_made W F o c) (cond (is_unread (op_before o c)) [] (led_front (front_one W F (op_before o Stop) c) (op_before o c) c (lead (op_before o c))))) []
   items_of_front o c k = (fronts o c).items k
 
-  pub more_of_front : (o : Op Where) (c : NodesT Where) (k : ℕ) → front_more W F (op_before o c) k ≡ cond (k == 0) (more_ahead (op_made W F o c) (led_count (front_put W (op_before o Stop)) c (lead (op_before o c)))) (cond (is_call o) None (Some (k - 1)))
+  pub more_of_front : (o : Op Where) (c : NodesT Where) (k : ℕ) → front_more W F (op_before o c) k ≡ cond (k == 0) (more_ahead (op_made W F o c) (cond (is_unread (op_before o c)) (Some 0) (led_count (front_one W F (op_before o Stop) c) c (lead (op_before o c))))) (cond (is_call o) None (Some (k - 1)))
   more_of_front o c k = (fronts o c).more k
+
+  -- where its word is not asked for, none
+  pub unread_front : (o : Op Where) (c : NodesT Where) (k : ℕ) → k ≡ 0 → op_made W F o c ≡ None → is_unread (op_before o c) ≡ true → front_items W F (op_before o c) k ≡ []
+  unread_front o c k none made unread =
+      items_of_front o c k
+      ∙ (λ i. cond (none i == 0) (made_or F (made i) (cond (unread i) [] (led_front (front_one W F (op_before o Stop) c) (op_before o c) c (lead (op_before o c))))) [])
 
 -- ---- words that are put into registers, one after another
 

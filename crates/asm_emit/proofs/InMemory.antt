@@ -18,6 +18,8 @@ use Rattle.asm_laws.specs.declared.behind.Behind.TheVariants.{Other, End, Turn}
 use Rattle.asm_laws.specs.inner.Emitted.{labels, enclosing, jump, alone, left_to, ends, is_stop, choice, enclosed, left_by, items_past, code_items, inside, is_end, again, looped, is_round, is_tested, part_items, test_items, jump_when}
 use Rattle.asm_laws.specs.declared.copying.Copying.{Copying}
 use Rattle.asm_laws.specs.Copies.{ends_here, lead, move_items, copy_at, copy_or}
+use Rattle.asm_laws.specs.Asks.{ask_of, ask_or, is_unread}
+use Rattle.asm_laws.proofs.Asks.{ask_turn, ask_is}
 use Rattle.asm_laws.specs.Live.{live_soon, ahead, asked_behind}
 use Rattle.asm_laws.proofs.Leads.{copy_turn, fill_turn, copy_is}
 use Rattle.asm_emit.specs.inner.Listed.{left_in, node_labels, list_labels, is_none, do_items, ahead_items, ahead_more, front_items, front_more, onward, node_items, list_past, list_items, is_call, round_in, tested_in, part_labels, own_test, list_test, list_part, led_ahead, led_behind, more_ahead, asked, led_asked, copied_own}
@@ -230,13 +232,17 @@ module _ (W : Whole) (F : Frame) (out : Option ℕ) where
       led_are None = done_are o (in_one W F o c) last ls n c
       led_are (Some (j, y)) = let e = led_is F.lasting c y.one in λ i. (puts_items W F y (e i) (Do o c) j ++ move_items y (Do o c)) ++ items last ls n c j
 
-      made_are : (x : Option (ℕ × Made)) → made_or F x (group_items W F o c) ++ items last ls n c (made_more x (group_more W F o c)) ≡ made_or F x (led_ahead W F o c (lead (Do o c))) ++ onward (more_ahead x (led_behind W F o c (lead (Do o c)))) (op_items W F o) (items last ls n c) (items last ls (n + 0) c 0)
-      made_are None = led_are (lead (Do o c))
+      unread_are : (b : Bool) → cond b [] (led_items W F o c (lead (Do o c))) ++ items last ls n c (cond b 0 (led_more W F o c (lead (Do o c)))) ≡ cond b [] (led_ahead W F o c (lead (Do o c))) ++ onward (cond b (Some 0) (led_behind W F o c (lead (Do o c)))) (op_items W F o) (items last ls n c) (items last ls (n + 0) c 0)
+      unread_are true = refl
+      unread_are false = led_are (lead (Do o c))
+
+      made_are : (x : Option (ℕ × Made)) → made_or F x (group_items W F o c) ++ items last ls n c (made_more x (group_more W F o c)) ≡ made_or F x (cond (is_unread (Do o c)) [] (led_ahead W F o c (lead (Do o c)))) ++ onward (more_ahead x (cond (is_unread (Do o c)) (Some 0) (led_behind W F o c (lead (Do o c))))) (op_items W F o) (items last ls n c) (items last ls (n + 0) c 0)
+      made_are None = unread_are (is_unread (Do o c))
       made_are (Some (k, y)) = refl
   plain_are o last ls n c (suc k) =
       let e : k ≡ suc k - 1 = omega arith in
       let b = not_zero k in
-      ap (items last ls n c) e ∙ (λ i. cond (sym b i) (made_or F (made_of W F o c) (led_ahead W F o c (lead (Do o c)))) [] ++ onward (cond (sym b i) (more_ahead (made_of W F o c) (led_behind W F o c (lead (Do o c)))) (Some (suc k - 1))) (op_items W F o) (items last ls n c) (items last ls (n + 0) c 0))
+      ap (items last ls n c) e ∙ (λ i. cond (sym b i) (made_or F (made_of W F o c) (cond (is_unread (Do o c)) [] (led_ahead W F o c (lead (Do o c))))) [] ++ onward (cond (sym b i) (more_ahead (made_of W F o c) (cond (is_unread (Do o c)) (Some 0) (led_behind W F o c (lead (Do o c))))) (Some (suc k - 1))) (op_items W F o) (items last ls n c) (items last ls (n + 0) c 0))
 
   op_are : (o : Op Where) (last : Behind) (ls : List ℕ) (n : ℕ) (c : NodesT Where) (k : ℕ) → items last ls n (op_before o c) k ≡ On last (op_before o c) k (do_items W F o) ls n 0 c
   op_are (op.Const t word) last ls n c k = plain_are (ConstO t word) last ls n c k
@@ -279,13 +285,17 @@ module _ (W : Whole) (F : Frame) (out : Option ℕ) where
       led_test None = done_test o (in_one W F o c) to c
       led_test (Some (j, y)) = let e = led_is F.lasting c y.one in λ i. (puts_items W F y (e i) (Do o c) j ++ move_items y (Do o c)) ++ tests to c j
 
-      made_test : (x : Option (ℕ × Made)) → made_or F x (group_items W F o c) ++ tests to c (made_more x (group_more W F o c)) ≡ made_or F x (led_ahead W F o c (lead (Do o c))) ++ onward (more_ahead x (led_behind W F o c (lead (Do o c)))) (op_items W F o) (tests to c) (tests to c 0)
-      made_test None = led_test (lead (Do o c))
+      unread_test : (b : Bool) → cond b [] (led_items W F o c (lead (Do o c))) ++ tests to c (cond b 0 (led_more W F o c (lead (Do o c)))) ≡ cond b [] (led_ahead W F o c (lead (Do o c))) ++ onward (cond b (Some 0) (led_behind W F o c (lead (Do o c)))) (op_items W F o) (tests to c) (tests to c 0)
+      unread_test true = refl
+      unread_test false = led_test (lead (Do o c))
+
+      made_test : (x : Option (ℕ × Made)) → made_or F x (group_items W F o c) ++ tests to c (made_more x (group_more W F o c)) ≡ made_or F x (cond (is_unread (Do o c)) [] (led_ahead W F o c (lead (Do o c)))) ++ onward (more_ahead x (cond (is_unread (Do o c)) (Some 0) (led_behind W F o c (lead (Do o c))))) (op_items W F o) (tests to c) (tests to c 0)
+      made_test None = unread_test (is_unread (Do o c))
       made_test (Some (k, y)) = refl
   plain_test o to c (suc k) =
       let e : k ≡ suc k - 1 = omega arith in
       let b = not_zero k in
-      ap (tests to c) e ∙ (λ i. cond (sym b i) (made_or F (made_of W F o c) (led_ahead W F o c (lead (Do o c)))) [] ++ onward (cond (sym b i) (more_ahead (made_of W F o c) (led_behind W F o c (lead (Do o c)))) (Some (suc k - 1))) (op_items W F o) (tests to c) (tests to c 0))
+      ap (tests to c) e ∙ (λ i. cond (sym b i) (made_or F (made_of W F o c) (cond (is_unread (Do o c)) [] (led_ahead W F o c (lead (Do o c))))) [] ++ onward (cond (sym b i) (more_ahead (made_of W F o c) (cond (is_unread (Do o c)) (Some 0) (led_behind W F o c (lead (Do o c))))) (Some (suc k - 1))) (op_items W F o) (tests to c) (tests to c 0))
 
   test_op : (o : Op Where) (to : ℕ) (c : NodesT Where) (k : ℕ) → tests to (op_before o c) k ≡ Tests (op_before o c) k (do_items W F o) to c
   test_op (op.Const t word) to c k = plain_test (ConstO t word) to c k
@@ -354,7 +364,7 @@ module _ (W : Whole) (F : Frame) (out : Option ℕ) where
         let part = part_are b (ls ++ n ∷ []) (n + 2) in
         let test = test_are (n + 2) b 0 in
         let as_asked = asked_is F.lasting c in
-        λ i. copy_or (copy_at k (joined b)) (as_asked i) (looped (te i) n (all i) (part i) (test i)) ++ items last ls (n + (2 + lb i)) c 0
+        λ i. ask_or (ask_of (joined b)) (as_asked i) (copy_or (copy_at k (joined b)) (as_asked i) (looped (te i) n (all i) (part i) (test i))) ++ items last ls (n + (2 + lb i)) c 0
     node_are (LeaveN j) last ls n c k = ap (λ xs. jump (add (enclosing ls j) 1) ∷ xs) (nothing last ls n c)
     node_are (AgainN j) last ls n c k = ap (λ xs. again ls j (ends last c) ++ xs) (nothing last ls n c)
     node_are (ReturnN p) last ls n c zero = ap (λ xs. giving F p ++ (left_by F out (is_end (ends last c)) ++ xs)) (nothing last ls n c)
@@ -401,3 +411,10 @@ copied_labels (suc done) xs y e =
 
 pub loop_labels : (done : ℕ) (x : NodeT Where) (b : ListT Where) (y : Copying) → x ≡ LoopN b → copy_at done (joined b) ≡ Some y → node_labels x ≡ 4
 loop_labels done x b y e f = ap node_labels e ∙ (let r = copied_labels done b y f in omega (arith, r))
+
+-- so do those of loops that only ask for a turn
+pub asked_labels : (x : NodeT Where) (b : ListT Where) (f : ℕ) → x ≡ LoopN b → ask_of (joined b) ≡ Some f → node_labels x ≡ 4
+asked_labels x b f e q =
+    let r = list_counts b in
+    let l : labels (joined b) ≡ labels (ask_turn f) = ap labels (ask_is (joined b) f q).0 in
+    ap node_labels e ∙ omega (arith, l, r)

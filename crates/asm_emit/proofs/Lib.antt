@@ -1,3 +1,4 @@
+pub mod Addressing
 pub mod Calling
 pub mod Ordered
 pub mod InMemory

@@ -7,7 +7,7 @@ use Rattle.kit_base.specs.Word.{add, sub}
 use Rattle.either.specs.declared.Either.TheVariants.{Left}
 use Rattle.v32_isa.specs.declared.instruction.Plain.TheVariants.{RET}
 use Rattle.v32_isa.specs.declared.instruction.One.{One}
-use Rattle.v32_isa.specs.declared.instruction.Mov.TheVariants.{RegAt, RegAtOff, AtReg, AtOffReg}
+use Rattle.v32_isa.specs.declared.instruction.Mov.TheVariants.{RegImm, RegAt, RegAtOff, AtReg, AtOffReg}
 use Rattle.v32_isa.specs.declared.instruction.Two.{Two}
 use Rattle.v32_isa.specs.declared.instruction.Two.TheVariants.{IADD, ISUB}
 use Rattle.v32_isa.specs.declared.instruction.Src.TheVariants as src
@@ -31,6 +31,7 @@ use Rattle.asm_laws.specs.declared.behind.Behind.{Behind}
 use Rattle.asm_laws.specs.declared.behind.Behind.TheVariants.{Other, End, Turn}
 use Rattle.asm_laws.specs.inner.Emitted.{labels, enclosing, jump, jump_unless, mark, first_part, second_part, choice, alone, left_to, ends, jump_when, is_stop, enclosed, leaving, left_by, items_past, code_items, exit_items, function_items, functions_items, closing_items, start_items, program_items, inside, is_end, is_turn, again, rotated, looped, is_tested, part_items, test_items}
 use Rattle.asm_laws.specs.declared.copying.Copying.{Copying}
+use Rattle.asm_laws.specs.Asks.{ask_of, ask_or}
 use Rattle.asm_laws.specs.Copies.{put_into, goes_to, is_put, source, source_put, move_item, move_items, copy_items, copy_at, copy_or}
 use Rattle.asm_laws.specs.Live.{live_soon, ahead, asked_behind}
 use Rattle.asm_laws.proofs.Putting.{unless_is, backs_are}
@@ -220,7 +221,7 @@ module _ (x : CodeT Where) (W : Whole) (words : list_all is_word W.names ≡ tru
 
     one_or_more_fine : (o : OpT Where) (c : NodesT Where) → IsOp x m o → AllFine (one_or_more W F o (in_one W F o c))
     one_or_more_fine o c ok =
-        one_or_more_is W F AllFine (λ v. v < 2 ^ 32) o c (λ t n e. (subst (IsOp x m) e ok, in_words 0 n, λ x y. sum_in_words x y)) (λ t k e. (addresses k, in_words 0 (get_or W.globals k 0), λ x y. sum_in_words x y)) (op_fine o ok) taking_fine
+        one_or_more_is W F AllFine (λ v. v < 2 ^ 32) o c (λ t n e. (subst (IsOp x m) e ok, in_words 0 n, λ x y. sum_in_words x y)) (λ t k e. (addresses k, in_words 0 (get_or W.globals k 0), λ x y. sum_in_words x y)) (λ t k e x y. sum_in_words x y) (op_fine o ok) taking_fine
         (λ p r i lt h. (fetch_fine F p r lt, taking_fine i h), λ r q i lr lq h. ((lr, (lq, tt)), taking_fine i h))
 
     word_fine : (y : Copying) (o : OpT Where) → IsOp x m o → AllFine (word_items W F y o)
@@ -257,7 +258,7 @@ module _ (x : CodeT Where) (W : Whole) (words : list_all is_word W.names ≡ tru
         join a (b ++ d) (move_fine (is_put y.to false c) 13 y.to (omega arith)) (join b d (move_fine (source_put y.from false c) 12 (source y.from y) (omega arith)) (move_fine (is_put y.count false c) 11 y.count (omega arith)))
 
     group_fine : (o : OpT Where) (c : NodesT Where) (bs : List Bool) → AreNodes x m bs (Do o c) → AllFine (group_items W F o c)
-    group_fine o c bs ok = group_is W F AllFine o c (one_or_more_fine o c ok.0) (λ k y e. join (puts_items W F y (asked_behind F.lasting c y.one) (Do o c) k) (move_items y (Do o c)) (puts_fine y (asked_behind F.lasting c y.one) (Do o c) k bs ok) (words_fine y (Do o c)))
+    group_fine o c bs ok = group_is W F AllFine o c tt (one_or_more_fine o c ok.0) (λ k y e. join (puts_items W F y (asked_behind F.lasting c y.one) (Do o c) k) (move_items y (Do o c)) (puts_fine y (asked_behind F.lasting c y.one) (Do o c) k bs ok) (words_fine y (Do o c)))
 
     next_fine : (o : OpT Where) (c : NodesT Where) (bs : List Bool) → AreNodes x m bs (Do o c) → AllFine (next_items W F o c)
     next_fine o c bs ok =
@@ -275,6 +276,10 @@ module _ (x : CodeT Where) (W : Whole) (words : list_all is_word W.names ≡ tru
     copied_fine : (y : Option Copying) (J : ℕ → Bool) (xs : List AsmItem) → AllFine xs → AllFine (copy_or y J xs)
     copied_fine None J xs h = h
     copied_fine (Some y) J xs h = copy_fine y J
+
+    asked_fine : (y : Option ℕ) (J : ℕ → Bool) (xs : List AsmItem) → AllFine xs → AllFine (ask_or y J xs)
+    asked_fine None J xs h = h
+    asked_fine (Some f) J xs h = either (J f) (item.Op (instr.Mov (RegImm (register f) (Left 0))) ∷ []) [] ((in_registers f, (omega arith, tt)), tt) tt
 
     call_fine : (t : Option Where) (g : ℕ) (args : List Where) → AllFine (call_items W F t g args)
     call_fine t g args = join (args_items F (W.frames g) (W.params g) args) _ (args_fine F (W.frames g) (W.params g) args) ((function_named W.names g words, tt), some_fine F t)
@@ -327,8 +332,9 @@ module _ (x : CodeT Where) (W : Whole) (words : list_all is_word W.names ≡ tru
             let part = part_items W F out (ls ++ n ∷ []) (n + 2) b in
             let test = test_items W F out (n + 2) b 0 in
             let asked = live_soon ahead F.lasting c in
-            join (copy_or (copy_at done b) asked (looped (is_tested b) n all part test)) _
-            (copied_fine (copy_at done b) asked (looped (is_tested b) n all part test) (either (is_tested b) (rotated n part test) (enclosed n all) (rotated_fine n part test (part_fine b (true ∷ bs) (ls ++ n ∷ []) (n + 2) ok.0) (test_fine (n + 2) b 0 (true ∷ bs) ok.0)) (enclosed_fine n all (past_fine b 0 (inside (ends last c)) (true ∷ bs) (ls ++ n ∷ []) (n + 2) ok.0))))
+            let turns = looped (is_tested b) n all part test in
+            join (ask_or (ask_of b) asked (copy_or (copy_at done b) asked turns)) _
+            (asked_fine (ask_of b) asked (copy_or (copy_at done b) asked turns) (copied_fine (copy_at done b) asked turns (either (is_tested b) (rotated n part test) (enclosed n all) (rotated_fine n part test (part_fine b (true ∷ bs) (ls ++ n ∷ []) (n + 2) ok.0) (test_fine (n + 2) b 0 (true ∷ bs) ok.0)) (enclosed_fine n all (past_fine b 0 (inside (ends last c)) (true ∷ bs) (ls ++ n ∷ []) (n + 2) ok.0)))))
             (past_fine c 0 last bs ls (n + (2 + labels b)) ok.1)
         past_fine (Leave k c) done last bs ls n ok = ((jump_named (add (enclosing ls k) 1), tt), past_fine c 0 last bs ls n ok.1)
         past_fine (Again k c) done last bs ls n ok = join (again ls k (ends last c)) _ (either ((k == 0) && is_turn (ends last c)) [] (jump (enclosing ls k) ∷ []) tt ((jump_named (enclosing ls k), tt), tt)) (past_fine c 0 last bs ls n ok.1)

@@ -5,20 +5,22 @@ ghost use Rattle.mid_code.specs.Functions.{op_before, node, before, nodes, liste
 ghost use Rattle.asm_laws.specs.Operations.{first_word, sum_of, first_place, in_slot, unturned, copied, copied_address};
 ghost use Rattle.asm_laws.specs.Pieces.{turned, other_word, loads_there};
 ghost use Rattle.asm_laws.specs.Operations.{with_sum};
-ghost use Rattle.asm_laws.specs.Operations.{taken, brought, either, added, known, addend, using_it, with_known, before_it};
-ghost use Rattle.asm_emit.specs.inner.Listed.{front_put, front_word, front_summed, ahead_items, ahead_more, is_call};
+ghost use Rattle.asm_laws.specs.Operations.{taken, brought, either, added, known, addend, using_it, with_known, access_item, before_it};
+ghost use Rattle.asm_emit.specs.inner.Listed.{front_put, front_word, front_summed, front_one, ahead_items, ahead_more, is_call};
 ghost use Rattle.asm_emit.specs.inner.Listed.{front_items, front_more, labels_due, node_labels};
 ghost use Rattle.asm_emit.specs.inner.View.{frame, whole};
 
+use crate::accesses::accessed;
+use crate::asks::is_unread;
 use crate::copies::lead;
 use crate::hands::{fetch, hand, is_in, op, register};
 use crate::leading::put_group;
 use crate::pieces::{port, turned};
 use crate::results::{made_of, put_giving, put_made};
-use crate::scope::{Around, Scope, at_or};
+use crate::scope::{Around, Scope, at_or, local_word};
 use crate::spare::used_by_op;
 use asm_items::{AsmItem, Imm};
-use asm_laws::Used;
+use asm_laws::{Base, Transfer, Used};
 use either::Either;
 use kit_base::Memory;
 use mid_code::{Node, Op, Where};
@@ -377,9 +379,9 @@ pub(crate) fn word_put(w: &Around<'_>, o: &Op<Where>) -> Option<(Reg, u32)>
     }
 }
 
-/// What does an operation together with some of those behind it, where there is something.
+/// What uses a word that an operation puts into a register, where the ones behind it do.
 #[tactic(auto, using(crate::proofs::Fronts::none_summed))]
-fn in_one(w: &Around<'_>, s: &Scope<'_>, o: &Op<Where>, rest: &[Node<Where>]) -> Option<Together>
+fn with_next(w: &Around<'_>, s: &Scope<'_>, o: &Op<Where>, rest: &[Node<Where>]) -> Option<Together>
     ensures { result ≡ front_summed w.now.globals.now (frame s.now) (front_put (whole w.now) (op_before o.now Stop)) (nodes rest.now) }
 {
     let (r, word) = word_put(w, o)?;
@@ -387,6 +389,53 @@ fn in_one(w: &Around<'_>, s: &Scope<'_>, o: &Op<Where>, rest: &[Node<Where>]) ->
     match x {
         Node::Do(p) => with_op(w, s, r, word, p, after),
         _ => None,
+    }
+}
+
+/// The access at an address, behind an instruction that brings a word out of a slot where one stands there.
+fn access_item(s: &Scope<'_>, b: Base, n: u32, x: Transfer) -> (Option<Instr<Imm>>, Instr<Imm>)
+    ensures { result ≡ access_item (frame s.now) b n x }
+{
+    match b {
+        Base::Local(k) => {
+            let top = Either::Left(local_word(s, k).wrapping_add(n));
+            match x {
+                Transfer::Load(v) => (
+                    None,
+                    Instr::Mov(Mov::RegAtOff(register(v), Reg::at(15), top)),
+                ),
+                Transfer::Store(a) => (
+                    brought(s, a, 10),
+                    Instr::Mov(Mov::AtOffReg(Reg::at(15), top, hand(a, 10))),
+                ),
+            }
+        }
+        Base::Place(p) => {
+            let number = Either::Left(n);
+            match x {
+                Transfer::Load(v) => (
+                    brought(s, p, 9),
+                    Instr::Mov(Mov::RegAtOff(register(v), hand(p, 9), number)),
+                ),
+                Transfer::Store(a) => (
+                    either(brought(s, p, 9), brought(s, a, 10)),
+                    Instr::Mov(Mov::AtOffReg(hand(p, 9), number, hand(a, 10))),
+                ),
+            }
+        }
+    }
+}
+
+/// What does an operation together with some of those behind it, where there is something.
+fn in_one(w: &Around<'_>, s: &Scope<'_>, o: &Op<Where>, rest: &[Node<Where>]) -> Option<Together>
+    ensures { result ≡ front_one (whole w.now) (frame s.now) (op_before o.now Stop) (nodes rest.now) }
+{
+    match accessed(s, o, rest) {
+        Some((more, y, x)) => {
+            let (first, i) = access_item(s, y.base, y.offset, x);
+            Some((more, first, i))
+        }
+        None => with_next(w, s, o, rest),
     }
 }
 
@@ -419,9 +468,8 @@ fn put_in_one(
     rest: &[Node<Where>],
 ) -> Result<Option<u32>, Memory>
     ensures items { OnOk result (out.new.items ≡ out.old.items
-        ++ ahead_items (front_summed w.now.globals.now (frame s.now) (front_put (whole w.now) (op_before o.now Stop)) (nodes rest.now))) }
-    ensures more { IfOk result (λ k. k ≡ ahead_more
-        (front_summed w.now.globals.now (frame s.now) (front_put (whole w.now) (op_before o.now Stop)) (nodes rest.now))) }
+        ++ ahead_items (front_one (whole w.now) (frame s.now) (op_before o.now Stop) (nodes rest.now))) }
+    ensures more { IfOk result (λ k. k ≡ ahead_more (front_one (whole w.now) (frame s.now) (op_before o.now Stop) (nodes rest.now))) }
 {
     match in_one(w, s, o, rest) {
         Some((more, first, i)) => {
@@ -453,6 +501,7 @@ fn put_op_ahead(
                 put_made(out, s, y)?;
                 Ok(Some(more))
             }
+            None if is_unread(o, rest) => Ok(Some(0)),
             None => match lead(o, rest) {
                 Some((count, y)) => {
                     put_group(out, w, s, y, o, rest, count)?;

@@ -30,14 +30,14 @@ fn steps_by(address: u32, one: u32, t: u32, p: u32, n: u32) -> bool
 }
 
 #[tactic(auto, using(crate::proofs::InMemory::ends_alike))]
-fn ends_here(xs: &[Node<Where>]) -> bool
+pub(crate) fn ends_here(xs: &[Node<Where>]) -> bool
     ensures { result ≡ ends_here (nodes xs.now) }
 {
     is_none(xs)
 }
 
 /// Whether the next turn of the innermost loop begins, and nothing comes behind.
-fn turns_here(xs: &[Node<Where>]) -> bool
+pub(crate) fn turns_here(xs: &[Node<Where>]) -> bool
     ensures { result ≡ turns_here (nodes xs.now) }
 {
     let Some((x, rest)) = xs.split_first() else {
@@ -468,7 +468,7 @@ fn block_of(y: Copying) -> Plain
     }
 }
 
-/// Adds the block move or fill, and what puts registers back that are asked for before the nodes behind it, where the first registers last, so many.
+/// Adds the block move or fill, and what puts registers back that are asked for before the nodes behind it, where these registers last.
 #[tactic(auto, using(crate::proofs::Fronts::both_parts))]
 pub(crate) fn put_copy(
     out: &mut Vec<AsmItem>,

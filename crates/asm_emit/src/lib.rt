@@ -5,7 +5,9 @@
 //! loops only goes on. It stands on the laws of `asm_laws`.
 #![tactic(auto)]
 
+mod accesses;
 mod ahead;
+mod asks;
 mod calls;
 mod copies;
 mod framing;

@@ -1,26 +1,29 @@
 // Registers that are live behind block moves, and those that last from one stretch of nodes to the next.
-ghost use Rattle.std.specs.Prelude.{◌≡◌, map, IfOk};
+ghost use Rattle.std.specs.Prelude.{◌≡◌, cond, map, IfOk, Some, None, true};
 ghost use Rattle.mid_code.specs.Code.{Stop, maybe};
 ghost use Rattle.mid_code.specs.Functions.{op_before, node, nodes, before, listed, function};
 ghost use Rattle.mid_code.specs.Operands.{op_uses, op_target, listed_uses};
-ghost use Rattle.asm_laws.specs.Copies.{lead};
+ghost use Rattle.asm_laws.specs.Copies.{copy_of, lead};
+ghost use Rattle.asm_laws.specs.Asks.{ask_of};
 ghost use Rattle.asm_laws.specs.Live.{is_place, is_among, reads_cell, copy_reads, live_soon};
-ghost use Rattle.asm_laws.specs.Live.{leads_by, copied_reads, exposed, copies, lasts, lasting_registers};
+ghost use Rattle.asm_laws.specs.Live.{leads_by, copied_reads, exposed, copies, addresses, lasts, lasting_registers};
+ghost use Rattle.asm_laws.specs.Accesses.{is_free};
 ghost use Rattle.asm_emit.specs.inner.Listed.{asked, led_asked};
-ghost use Rattle.asm_emit.specs.inner.Lasting.{told_by_copy, told_by_op, told, inward, exposed_from, anew_unless, lasting_all};
+ghost use Rattle.asm_emit.specs.inner.Lasting.{told_by_copy, told_by_loop, told_by_op, told, inward, exposed_from, anew_unless, loop_exposed, lasting_all};
 
 use crate::ahead::{behind, is_call};
+use crate::asks::ask_of;
 use crate::copies::{copy_at, copy_of, is_from, lead};
 use asm_laws::Copying;
 use kit_base::Memory;
 use mid_code::{Function, Node, Op, Uses, Where};
 use std::alloc::Global;
 
-/// How many nodes are asked behind a block move.
+/// How many nodes are asked behind a block move or an access.
 const AHEAD: u32 = 64;
 
 /// Whether a place is a register.
-fn is_place(p: Where, r: u32) -> bool
+pub(crate) fn is_place(p: Where, r: u32) -> bool
     ensures { result ≡ is_place p r }
 {
     match p {
@@ -126,6 +129,28 @@ fn told_by_copy(y: Option<Copying>, r: u32) -> Option<bool>
     }
 }
 
+/// What a loop tells that copies words, fills them, or turns.
+fn told_by_turns(b: &[Node<Where>], lasting: &[bool], r: u32) -> Option<bool>
+    ensures { result ≡ cond (lasts lasting.now r) (Some true) (told_by_copy (copy_of (nodes b.now)) r) }
+{
+    if lasts(lasting, r) {
+        Some(true)
+    } else {
+        told_by_copy(copy_of(b), r)
+    }
+}
+
+/// What any loop tells: one that only asks for a turn puts a word into its register.
+fn told_by_loop(b: &[Node<Where>], lasting: &[bool], r: u32) -> Option<bool>
+    ensures { result ≡ told_by_loop (ask_of (nodes b.now)) r
+        (cond (lasts lasting.now r) (Some true) (told_by_copy (copy_of (nodes b.now)) r)) }
+{
+    match ask_of(b) {
+        Some(f) => if r == f { Some(false) } else { None },
+        None => told_by_turns(b, lasting, r),
+    }
+}
+
 /// What an operation or a call tells, where it reads the register or puts a word there, or leaves the function.
 fn told_by_op(o: &Op<Where>, r: u32) -> Option<bool>
     ensures { result ≡ told_by_op o.now r }
@@ -147,13 +172,7 @@ fn told(x: &Node<Where>, lasting: &[bool], r: u32) -> Option<bool>
         Node::Do(o) => told_by_op(o, r),
         Node::Choose(_, _, _) => Some(true),
         Node::Block(_) => None,
-        Node::Loop(b) => {
-            if lasts(lasting, r) {
-                Some(true)
-            } else {
-                told_by_copy(copy_of(b.as_slice()), r)
-            }
-        }
+        Node::Loop(b) => told_by_loop(b.as_slice(), lasting, r),
         Node::Leave(_) => Some(lasts(lasting, r)),
         Node::Again(_) => Some(lasts(lasting, r)),
         Node::Return(p) => Some(is_given(*p, r)),
@@ -197,6 +216,14 @@ pub(crate) fn is_asked(lasting: &[bool], rest: &[Node<Where>], r: u32) -> bool
     ensures { result ≡ asked lasting.now (nodes rest.now) r }
 {
     live_soon(AHEAD, lasting, rest, r)
+}
+
+/// Whether a register is not asked for where nodes come next.
+#[tactic(auto, unfolding(asm_laws::specs::Accesses::is_free))]
+pub(crate) fn is_free(lasting: &[bool], rest: &[Node<Where>], r: u32) -> bool
+    ensures { result ≡ is_free lasting.now (nodes rest.now) r }
+{
+    !live_soon(AHEAD, lasting, rest, r)
 }
 
 /// Whether it puts one back behind a loop that comes behind operations.
@@ -287,6 +314,25 @@ fn op_exposed(s: Stretch, o: &Op<Where>, rest: &[Node<Where>], r: u32) -> Option
     }
 }
 
+/// How a stretch goes on behind a loop that copies words, fills them, or turns.
+#[cycle(exposing)]
+fn loop_exposed(s: Stretch, b: &[Node<Where>], r: u32) -> Option<Stretch>
+    ensures { result ≡ loop_exposed s (nodes b.now) r }
+{
+    let reads = copied_reads(copy_of(b), r);
+    match copy_at(s.done, b) {
+        Some(_) => if s.unset && reads {
+            None
+        } else {
+            Some(Stretch {
+                unset: s.unset,
+                done: 0,
+            })
+        },
+        None => anew_unless(reads || exposed(true, b, r)),
+    }
+}
+
 /// How a stretch goes on behind a node, where the register is not exposed in it.
 #[cycle(exposing)]
 fn node_exposed(s: Stretch, x: &Node<Where>, rest: &[Node<Where>], r: u32) -> Option<Stretch>
@@ -300,20 +346,13 @@ fn node_exposed(s: Stretch, x: &Node<Where>, rest: &[Node<Where>], r: u32) -> Op
                 || exposed(s.unset, b.as_slice(), r),
         ),
         Node::Block(b) => anew_unless(exposed(s.unset, b.as_slice(), r)),
-        Node::Loop(b) => {
-            let reads = copied_reads(copy_of(b.as_slice()), r);
-            match copy_at(s.done, b.as_slice()) {
-                Some(_) => if s.unset && reads {
-                    None
-                } else {
-                    Some(Stretch {
-                        unset: s.unset,
-                        done: 0,
-                    })
-                },
-                None => anew_unless(reads || exposed(true, b.as_slice(), r)),
-            }
-        }
+        Node::Loop(b) => match ask_of(b.as_slice()) {
+            Some(f) => Some(Stretch {
+                unset: s.unset && r != f,
+                done: 0,
+            }),
+            None => loop_exposed(s, b.as_slice(), r),
+        },
         Node::Leave(_) => anew_unless(false),
         Node::Again(_) => anew_unless(false),
         Node::Return(p) => anew_unless(s.unset && is_given(*p, r)),
@@ -337,7 +376,7 @@ fn exposed(unset: bool, xs: &[Node<Where>], r: u32) -> bool
     false
 }
 
-/// Whether there is a loop in a node that copies words or fills them.
+/// Whether there is a loop in a node that copies words or fills them, or only asks for a turn.
 #[cycle(copying)]
 fn node_copies(x: &Node<Where>) -> bool
     ensures { result ≡ copies (before (node x.now) Stop) }
@@ -345,7 +384,11 @@ fn node_copies(x: &Node<Where>) -> bool
     match x {
         Node::Choose(_, a, b) => copies(a.as_slice()) || copies(b.as_slice()),
         Node::Block(b) => copies(b.as_slice()),
-        Node::Loop(b) => copy_of(b.as_slice()).is_some() || copies(b.as_slice()),
+        Node::Loop(b) => {
+            ask_of(b.as_slice()).is_some()
+                || copy_of(b.as_slice()).is_some()
+                || copies(b.as_slice())
+        }
         _ => false,
     }
 }
@@ -363,12 +406,51 @@ fn copies(xs: &[Node<Where>]) -> bool
     false
 }
 
+/// Whether an operation takes the address of a local, or adds to an address.
+fn takes_address(o: &Op<Where>) -> bool
+    ensures { result ≡ addresses (op_before o.now Stop) }
+{
+    match o {
+        Op::Local(_, _) => true,
+        Op::Step(_, _, _) => true,
+        _ => false,
+    }
+}
+
+/// Whether there is such an operation in a node.
+#[cycle(addressing)]
+fn node_addresses(x: &Node<Where>) -> bool
+    ensures { result ≡ addresses (before (node x.now) Stop) }
+{
+    match x {
+        Node::Do(o) => takes_address(o),
+        Node::Choose(_, a, b) => addresses(a.as_slice()) || addresses(b.as_slice()),
+        Node::Block(b) => addresses(b.as_slice()),
+        Node::Loop(b) => addresses(b.as_slice()),
+        _ => false,
+    }
+}
+
+/// The same of nodes.
+#[cycle(addressing)]
+#[tactic(auto, using(crate::proofs::Addressing::addressed, crate::proofs::Addressing::unaddressed))]
+fn addresses(xs: &[Node<Where>]) -> bool
+    ensures { result ≡ addresses (nodes xs.now) }
+{
+    for x in xs {
+        if node_addresses(x) {
+            return true;
+        }
+    }
+    false
+}
+
 /// Which registers of places last from one stretch of a body to the next.
 #[tactic(auto, unfolding(asm_laws::specs::Live::lasting_registers))]
 fn lasting_registers(alloc: Global, body: &[Node<Where>]) -> Result<Vec<bool>, Memory>
     ensures { IfOk result (λ v. v.items ≡ lasting_registers (nodes body.now)) }
 {
-    let all = !copies(body);
+    let all = !(copies(body) || addresses(body));
     let mut each = Vec::new(alloc);
     each.push(all || exposed(false, body, 0))?;
     each.push(all || exposed(false, body, 1))?;

@@ -3,6 +3,7 @@ ghost use Rattle.std.specs.Prelude.{◌≡◌, ◌+◌, ◌-◌, ◌<◌, ◌^�
 ghost use Rattle.kit_base.specs.Word.{add};
 ghost use Rattle.mid_code.specs.Functions.{node, nodes, listed, BlockN, LoopN};
 ghost use Rattle.asm_laws.specs.Operations.{hand, brings};
+ghost use Rattle.asm_laws.specs.Copies.{copy_at, copy_or};
 ghost use Rattle.asm_laws.specs.declared.behind.Behind.TheVariants.{Other, End, Turn};
 ghost use Rattle.asm_laws.specs.inner.Emitted.{labels, enclosing, jump, jump_unless, jump_when, mark, first_part, second_part, one_way, alone};
 ghost use Rattle.asm_laws.specs.inner.Emitted.{leaving, left_by, code_items, inside, is_end, is_turn, again, rotated};
@@ -12,9 +13,11 @@ ghost use Rattle.asm_emit.specs.inner.Listed.{asked, copied_own, own_test, list_
 ghost use Rattle.asm_emit.specs.inner.View.{frame, whole};
 
 use crate::ahead::{behind, is_call, put_ahead};
+use crate::asks::{ask_of, put_asked};
 use crate::copies::{copy_at, put_copy};
 use crate::framing::put_frame_gone;
 use crate::hands::{brings, hand, op};
+use crate::live::is_asked;
 use crate::names::jump_label;
 use crate::operations::put_op;
 use crate::scope::{Around, Scope};
@@ -579,9 +582,36 @@ fn put_node(
     }
 }
 
+/// Adds a loop that does not only ask for a turn, with these nodes behind it, where so many operations in front are done already.
+#[cycle(items)]
+fn put_turning(
+    out: &mut Vec<AsmItem>,
+    w: &Within<'_>,
+    last: Behind,
+    ls: &mut Vec<u32>,
+    n: u32,
+    b: &[Node<Where>],
+    rest: &[Node<Where>],
+    done: u32,
+) -> Result<u32, Memory>
+    requires fits { n + node_labels (LoopN (listed (map node b.now))) < 2 ^ 32 - 1 }
+    ensures items { OnOk result (out.new.items ≡ out.old.items
+        ++ copy_or (copy_at done (nodes b.now)) (asked w.now.scope.lasting.now (nodes rest.now))
+        (node_items (whole w.now.around) (frame w.now.scope) w.now.end last ls.old.items n (LoopN (listed (map node b.now))))) }
+    ensures labels { OnOk result (ls.new.items ≡ ls.old.items) }
+    ensures next { IfOk result (λ m. m ≡ n + node_labels (LoopN (listed (map node b.now)))) }
+{
+    match copy_at(done, b) {
+        Some(y) => {
+            put_copy(out, y, w.scope.lasting, rest)?;
+            Ok(n + 4)
+        }
+        None => put_loop(out, w, last, ls, n, b),
+    }
+}
+
 /// Adds the own items of a node with these nodes behind it, where so many operations in front are done already; the number of the next label.
 #[cycle(items)]
-#[tactic(auto, using(crate::proofs::InMemory::copied_labels))]
 fn put_own(
     out: &mut Vec<AsmItem>,
     w: &Within<'_>,
@@ -600,12 +630,12 @@ fn put_own(
     ensures next { IfOk result (λ m. m ≡ n + node_labels (node x.now)) }
 {
     match x {
-        Node::Loop(b) => match copy_at(done, b.as_slice()) {
-            Some(y) => {
-                put_copy(out, y, w.scope.lasting, rest)?;
+        Node::Loop(b) => match ask_of(b.as_slice()) {
+            Some(f) => {
+                put_asked(out, f, is_asked(w.scope.lasting, rest, f))?;
                 Ok(n + 4)
             }
-            None => put_loop(out, w, last, ls, n, b.as_slice()),
+            None => put_turning(out, w, last, ls, n, b.as_slice(), rest, done),
         },
         _ => put_node(out, w, last, ls, n, x),
     }

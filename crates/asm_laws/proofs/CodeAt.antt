@@ -21,6 +21,7 @@ use Rattle.asm_laws.specs.Placing.{Line, Bounds, end_of, begin_of, owed, paid, J
 use Rattle.asm_laws.specs.Standing.{Stand}
 use Rattle.asm_laws.specs.declared.copying.Copying.{Copying}
 use Rattle.asm_laws.specs.Copies.{copy_at, copy_or}
+use Rattle.asm_laws.specs.Asks.{ask_of, ask_or}
 use Rattle.asm_laws.specs.Live.{live_soon, ahead}
 use Rattle.asm_laws.specs.Holds.{Setting}
 use Rattle.asm_laws.specs.Calling.{ExitAt}
@@ -322,11 +323,21 @@ module _ (S : Setting) (f : ℕ) (out : Option ℕ) (leave : Leaves S f out) whe
         (label n, label (n + 1), inl (h.0, h.1), turns (label n) (label (n + 1)) is one two, q_e)
 
     -- a loop that is done by a block move, or in turns
-    copied_at : (b c : NodesT Where) (xs : List AsmItem) (es : List Bounds) (done pc q : ℕ) (y : Option Copying) → copy_at done b ≡ y → Here pc (copy_or y (live_soon ahead F.lasting c) xs) q →
+    abbrev Copied : (b c : NodesT Where) (es : List Bounds) (done pc p : ℕ) → Type 0
+    Copied b c es done pc p =
+        (items_at S).copy f pc b c done p ⊎ ((items_at S).plain b done × (r : ℕ) × Passes S.console.words pc r × CodeAt (record { begins = r; ends = p; owes = true } ∷ es) r b p × Unit {0} × Unit {0} × Unit {0})
+
+    copied_at : (b c : NodesT Where) (xs : List AsmItem) (es : List Bounds) (done pc q : ℕ) (y : Option Copying) → ask_of b ≡ None → copy_at done b ≡ y → Here pc (copy_or y (live_soon ahead F.lasting c) xs) q →
         (Here pc xs q → (r : ℕ) × (p : ℕ) × Passes S.console.words pc r × CodeAt (record { begins = r; ends = p; owes = true } ∷ es) r b p × (q ≡ p)) →
         (p : ℕ) × ((items_at S).copy f pc b c done p ⊎ ((items_at S).plain b done × (r : ℕ) × Passes S.console.words pc r × CodeAt (record { begins = r; ends = p; owes = true } ∷ es) r b p × Unit {0} × Unit {0} × Unit {0})) × (q ≡ p)
-    copied_at b c xs es done pc q None e h go = let r = go h in (r.1, inr (e, r.0, r.2, r.3, tt, tt, tt), r.4)
-    copied_at b c xs es done pc q (Some y) e h go = (q, inl (y, e, h), refl)
+    copied_at b c xs es done pc q None none e h go = let r = go h in (r.1, inr ((none, e), r.0, r.2, r.3, tt, tt, tt), r.4)
+    copied_at b c xs es done pc q (Some y) none e h go = (q, inl (y, e, h), refl)
+
+    -- one that only asks for a turn
+    asked_at : (b c : NodesT Where) (xs : List AsmItem) (D : ℕ → Type 0) (pc q : ℕ) (y : Option ℕ) → ask_of b ≡ y → Here pc (ask_or y (live_soon ahead F.lasting c) xs) q → (ask_of b ≡ None → Here pc xs q → (p : ℕ) × D p × (q ≡ p)) →
+        (p : ℕ) × ((items_at S).ask f pc b c p ⊎ D p) × (q ≡ p)
+    asked_at b c xs D pc q None e h go = let r = go e h in (r.0, inr r.1, r.2)
+    asked_at b c xs D pc q (Some y) e h go = (q, inl (y, e, h), refl)
 
     -- behind an operator's word that is given back
     ends_at : (c : NodesT Where) (k : ℕ) → Gives k c → (last : Behind) (es : List Bounds) (ls : List ℕ) (n q e : ℕ) → Over es last e → Here q (past last ls n c k) e → (z : ℕ) × Passes S.console.words q z × ExitAt S f z
@@ -390,11 +401,12 @@ module _ (S : Setting) (f : ℕ) (out : Option ℕ) (leave : Leaves S f out) whe
           let all = past (inside (ends last c)) inner (n + 2) b zero in
           let part = part_items S.whole F out inner (n + 2) b in
           let test = test_items S.whole F out (n + 2) b zero in
-          let s = parts (copy_or (copy_at done b) (live_soon ahead F.lasting c) (looped (is_tested b) n all part test)) (past last ls (n + (2 + labels b)) c zero) pc e h in
+          let turns = looped (is_tested b) n all part test in
+          let s = parts (ask_or (ask_of b) (live_soon ahead F.lasting c) (copy_or (copy_at done b) (live_soon ahead F.lasting c) turns)) (past last ls (n + (2 + labels b)) c zero) pc e h in
           let closed = enter ls es n (omega (arith, few)) en in
-          let r = copied_at b c (looped (is_tested b) n all part test) es done pc s.0 (copy_at done b) refl s.1 (λ k. looped_at b all part test es n pc s.0 (inside (ends last c)) (is_tested b) refl (in_body es around (ends last c) s.0 (shut es c last ls (n + (2 + labels b)) s.0 e over s.2))
+          let r = asked_at b c (copy_or (copy_at done b) (live_soon ahead F.lasting c) turns) (Copied b c es done pc) pc s.0 (ask_of b) refl s.1 (λ none w. copied_at b c turns es done pc s.0 (copy_at done b) none refl w (λ k. looped_at b all part test es n pc s.0 (inside (ends last c)) (is_tested b) refl (in_body es around (ends last c) s.0 (shut es c last ls (n + (2 + labels b)) s.0 e over s.2))
           (λ p q o k. code_at b zero (inside (ends last c)) (true ∷ bs) inner around (n + 2) p q ok.0 (deeper ls n bs true same) (omega (arith, few)) closed o tt k)
-          (λ p q t g k. test_at b zero inner around (true ∷ bs) (n + 2) p q t ok.0 (deeper ls n bs true same) (omega (arith, few)) closed (record { end = label n; owes = refl; begins = refl; here = g }) k) k) in
+          (λ p q t g k. test_at b zero inner around (true ∷ bs) (n + 2) p q t ok.0 (deeper ls n bs true same) (omega (arith, few)) closed (record { end = label n; owes = refl; begins = refl; here = g }) k) k)) in
           (r.0, r.1, from es s.0 r.0 e c r.2 (code_at c zero last bs ls es (n + (2 + labels b)) s.0 e ok.1 same (omega (arith, few)) en over tt s.2))
       code_at (Leave k c) done last bs ls es n pc e ok same few en over none h =
           let l = ok.0 in

@@ -363,18 +363,22 @@ module _ (L : Lang Where) (X : Holder L) where
         (λ t m1 e1 h1. nodes n k le bef κ at.0 e ls c zero (begin X t) t m1 at.2 (anew κ c t m1 at.0 e1 at.3 h1)))
     nodes n k le bef κ pc e ls (Loop b c) j b0 s m0 (p, inl h, rest) d =
         after κ (X.M κ Stop) m0 b0 s pc 0 n n e ls (X.ready κ b c j s) (does L n (below L n) (Loop b c) s) (omega arith) d
+        (then_sim κ (X.M κ c) (X.M κ Stop) d.to (begin X s) p e n ls (turn_done (does L n (below L n) b (L.tick node_weight s)) (below L n (Loop b Stop))) (does L n (below L n) c) (parts.ask κ pc p j b c s d.to h d.at d.held n ls)
+        (λ t m1 e1 h1. nodes n k le bef κ p e ls c zero (begin X t) t m1 rest (fresh κ c t m1 p e1 h1)))
+    nodes n k le bef κ pc e ls (Loop b c) j b0 s m0 (p, inr (inl h), rest) d =
+        after κ (X.M κ Stop) m0 b0 s pc 0 n n e ls (X.ready κ b c j s) (does L n (below L n) (Loop b c) s) (omega arith) d
         (then_sim κ (X.M κ c) (X.M κ Stop) d.to (begin X s) p e n ls (turn_done (does L n (below L n) b (L.tick node_weight s)) (below L n (Loop b Stop))) (does L n (below L n) c) (parts.copy κ pc p j b c s d.to h d.at d.held n ls)
         (λ t m1 e1 h1. nodes n k le bef κ p e ls c zero (begin X t) t m1 rest (fresh κ c t m1 p e1 h1)))
-    nodes n k le bef κ pc e ls (Loop b c) j b0 s m0 (p, inr (plain, q, passes, body, begins, turns, behind), rest) d =
+    nodes n k le bef κ pc e ls (Loop b c) j b0 s m0 (p, inr (inr (plain, q, passes, body, begins, turns, behind)), rest) d =
         let m = d.to in
         let u = L.tick node_weight s in
         let around = record { begins = q; ends = p; owes = true } ∷ ls in
-        let g = pass_node κ pc q s m passes d.at (parts.loop κ b c s m (parts.ready_plain κ b c j s m plain d.held)) in
+        let g = pass_node κ pc q s m passes d.at (parts.loop κ b c s m (parts.plain_first b j plain) (parts.ready_plain κ b c j s m plain d.held)) in
         after κ (X.M κ Stop) m0 b0 s pc 0 n n e ls (X.ready κ b c j s) (does L n (below L n) (Loop b c) s) (omega arith) d
         (then_sim κ (X.M κ Stop) (X.M κ Stop) m (begin X s) p e n ls (turn_done (does L n (below L n) b u) (below L n (Loop b Stop))) (does L n (below L n) c)
         (turn_sim κ m (begin X s) p n k q ls (does L n (below L n) b u) (below L n (Loop b Stop)) le
         (after κ (X.M κ Stop) m (begin X s) u q 0 n n p around (X.M κ Stop u) (does L n (below L n) b u) (omega arith) g (nodes n k le bef κ q p around b zero (begin X u) u g.to body (anew κ b u g.to q g.at begins g.held)))
-        (λ t m1 e1 h1. bef κ q p ls (Loop b Stop) t m1 (p, inr (parts.plain_first b, q, inr refl, body, begins, turns, parts.nothing (X.fn κ)), refl) e1 (parts.opens κ (Loop b Stop) t m1 turns h1)))
+        (λ t m1 e1 h1. bef κ q p ls (Loop b Stop) t m1 (p, inr (inr (parts.plain_first b j plain, q, inr refl, body, begins, turns, parts.nothing (X.fn κ))), refl) e1 (parts.opens κ (Loop b Stop) t m1 turns h1)))
         (λ t m1 e1 h1. nodes n k le bef κ p e ls c zero (begin X t) t m1 rest (anew κ c t m1 p e1 behind h1)))
     nodes n k le bef κ pc e ls (Leave i c) j b s m at d =
         let f = pass_node κ pc (end_of ls i) s d.to at.0 d.at (parts.leave κ i c s d.to d.held) in

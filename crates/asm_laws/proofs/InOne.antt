@@ -15,7 +15,7 @@ use Rattle.asm_items.specs.Items.{Imm}
 use Rattle.mid_code.specs.declared.placed.Where.{Where}
 use Rattle.mid_code.specs.declared.placed.Where.TheVariants.{Reg, Slot}
 use Rattle.mid_code.specs.Placed.{is_same_place}
-use Rattle.mid_code.specs.Code.{OpT, ConstO, TwoO, GlobalO, StepO, LoadO, StoreO, OutO, NodesT, Do}
+use Rattle.mid_code.specs.Code.{OpT, ConstO, TwoO, GlobalO, LocalO, StepO, LoadO, StoreO, OutO, NodesT, Do}
 use Rattle.asm_laws.specs.declared.made.Made.{Made}
 use Rattle.asm_laws.specs.declared.made.Made.TheVariants.{Both, Known}
 use Rattle.asm_laws.specs.declared.used.Used.{Used}
@@ -23,11 +23,19 @@ use Rattle.asm_laws.specs.declared.used.Used.TheVariants.{Computed, Loaded, Inde
 use Rattle.asm_laws.specs.Pieces.{register, is_in, turned, other_word, loads_there}
 use Rattle.asm_laws.specs.Spare.{beside, operand, in_slots, at_address, at_sum, index, index_behind, indexed, offset_load, offset_sum, offset_step, offset_behind, offset, adds, element_behind, element, or_else, used_by}
 use Rattle.asm_laws.specs.Spare as spare
+use Rattle.asm_laws.specs.Asks.{is_unread}
 use Rattle.asm_laws.specs.Live.{asked_behind}
-use Rattle.asm_laws.specs.Operations.{Frame, Whole, fetch, fetches, hand, op_items, word_put, first_word, summed, first_place, unturned, copied, copied_address, with_copy, with_sum, with_word, taken, brought, either, added, known, addend, using_it, is_spared, with_known, with_more, in_one, before_it, one_or_more, puts_items, led_items, group_items, given_first, made_both, made_known, made_with, first_made, made_of, made_items, made_or, next_items}
+use Rattle.asm_laws.specs.Operations.{Frame, Whole, local_word, fetch, fetches, hand, op_items, word_put, first_word, summed, first_place, unturned, copied, copied_address, with_copy, with_sum, with_word, taken, brought, either, added, known, addend, using_it, is_spared, with_known, with_more, with_next, access_item, with_access, in_one, before_it, one_or_more, puts_items, led_items, group_items, given_first, made_both, made_known, made_with, first_made, made_of, made_items, made_or, next_items}
 use Rattle.asm_laws.specs.Operations as emitted
 use Rattle.asm_laws.specs.declared.copying.Copying.{Copying}
 use Rattle.asm_laws.specs.Copies.{lead, move_items}
+use Rattle.asm_laws.specs.declared.access.Base.{Base}
+use Rattle.asm_laws.specs.declared.access.Base.TheVariants.{Local, Place}
+use Rattle.asm_laws.specs.declared.access.Address.{Address}
+use Rattle.asm_laws.specs.declared.access.Transfer.{Transfer}
+use Rattle.asm_laws.specs.declared.access.Transfer.TheVariants.{Load, Store}
+use Rattle.asm_laws.specs.Accesses.{accessed}
+use Rattle.asm_laws.proofs.AccessForms.{accessed_case}
 
 module _ (V : ℕ → Type 0) where
   -- a register, and a word of which V holds
@@ -291,11 +299,39 @@ module _ (W : Whole) (F : Frame) (P : List AsmItem → Type 0) (V : ℕ → Type
       go true = with_known_is o s (used_by (Do p c)) (used_low (Do p c)) fit h one two
       go false = word_is o s p c fit h one two
 
+  next_with_is : (o : OpT Where) (c : NodesT Where) → ((t : Where) (n : ℕ) → o ≡ ConstO t n → V n × V (sub 0 n) × ((x y : ℕ) → V (add x y))) → ((t : Where) (k : ℕ) → o ≡ GlobalO t k → V (get_or W.globals k 0) × V (sub 0 (get_or W.globals k 0)) × ((x y : ℕ) → V (add x y))) → P (op_items W F o) → One → Behind → P (one_or_more W F o (with_next W F o c))
+  next_with_is o (Do p c) f g h one two = more_is o (word_put W o) p c (put_is V W o f g) h one two
+  next_with_is o _ f g h one two = h
+
+  -- ---- an access at an address that nothing else asks for
+
+  abbrev TakesBase : Base → ℕ → Type 0
+  TakesBase (Local k) n = V (add (local_word F k) n)
+  TakesBase (Place p) n = V n
+
+  access_is : (b : Base) (n : ℕ) (x : Transfer) → TakesBase b n → One → Behind → P (before_it (access_item F b n x).0 ++ item.Op (access_item F b n x).1 ∷ [])
+  access_is (Local k) n (Load v) fit one two = one (instr.Mov (RegAtOff (register v) 15 (Left (add (local_word F k) n)))) (omega arith, omega arith, fit)
+  access_is (Local k) n (Store a) fit one two = brought_is a 10 (instr.Mov (AtOffReg 15 (Left (add (local_word F k) n)) (hand a 10))) (omega arith) (omega arith, hand_low a 10 (omega arith), fit) one two
+  access_is (Place p) n (Load v) fit one two = brought_is p 9 (instr.Mov (RegAtOff (register v) (hand p 9) (Left n))) (omega arith) (omega arith, hand_low p 9 (omega arith), fit) one two
+  access_is (Place p) n (Store a) fit one two = either_is p a (instr.Mov (AtOffReg (hand p 9) (Left n) (hand a 10))) (hand_low p 9 (omega arith), hand_low a 10 (omega arith), fit) one two
+
+  -- the word that such an instruction takes
+  abbrev Taken : OpT Where → NodesT Where → Option (ℕ × Address × Transfer) → Type 0
+  Taken o c None = Unit {0}
+  Taken o c (Some (k, y, x)) = ((t : Where) (n : ℕ) → o ≡ ConstO t n → V n) → ((t : Where) (k : ℕ) → o ≡ LocalO t k → (x y : ℕ) → V (add x y)) → TakesBase y.base y.offset
+
+  access_takes : (o : OpT Where) (c : NodesT Where) → Taken o c (accessed F.lasting F.registers o c)
+  access_takes = accessed_case F.lasting F.registers Taken (λ o c. tt) (λ t l last d x i told f g. g (Reg t) l refl (local_word F l) 0) (λ r n u p last d x lt apart i told f g. f (Reg r) n refl) (λ t l r n u last d x lt apart i told f g. g (Reg t) l refl (local_word F l) n)
+
   -- what holds of the items of an operation, and of each such instruction, alone and behind one that fetches or adds a word, holds of what is done
-  pub one_or_more_is : (o : OpT Where) (c : NodesT Where) → ((t : Where) (n : ℕ) → o ≡ ConstO t n → V n × V (sub 0 n) × ((x y : ℕ) → V (add x y))) → ((t : Where) (k : ℕ) → o ≡ GlobalO t k → V (get_or W.globals k 0) × V (sub 0 (get_or W.globals k 0)) × ((x y : ℕ) → V (add x y))) → P (op_items W F o) → One → Behind → P (one_or_more W F o (in_one W F o c))
+  pub one_or_more_is : (o : OpT Where) (c : NodesT Where) → ((t : Where) (n : ℕ) → o ≡ ConstO t n → V n × V (sub 0 n) × ((x y : ℕ) → V (add x y))) → ((t : Where) (k : ℕ) → o ≡ GlobalO t k → V (get_or W.globals k 0) × V (sub 0 (get_or W.globals k 0)) × ((x y : ℕ) → V (add x y))) →
+      ((t : Where) (k : ℕ) → o ≡ LocalO t k → (x y : ℕ) → V (add x y)) → P (op_items W F o) → One → Behind → P (one_or_more W F o (in_one W F o c))
   unfolding in_one
-  one_or_more_is o (Do p c) f g h one two = more_is o (word_put W o) p c (put_is V W o f g) h one two
-  one_or_more_is o _ f g h one two = h
+  one_or_more_is o c f g l h one two = go (accessed F.lasting F.registers o c) (access_takes o c)
+    where
+      go : (x : Option (ℕ × Address × Transfer)) → Taken o c x → P (one_or_more W F o (with_access F x (with_next W F o c)))
+      go None t = next_with_is o c f g h one two
+      go (Some (k, y, x)) t = access_is y.base y.offset x (t (λ w n e. (f w n e).0) l) one two
 
   -- what is known of a word that an operator makes to be given back
   abbrev MadeFits : OpT Where → Option (ℕ × Made) → Type 0
@@ -347,9 +383,13 @@ module _ (W : Whole) (F : Frame) (P : List AsmItem → Type 0) (V : ℕ → Type
   next_is o c f g one two both h = made_or_is o c (group_items W F o c) f g one two both h
 
 -- the same where operations before a loop that copies words are done one after another
-pub group_is : (W : Whole) (F : Frame) (P : List AsmItem → Type 0) (o : OpT Where) (c : NodesT Where) → P (one_or_more W F o (in_one W F o c)) → ((k : ℕ) (y : Copying) → lead (Do o c) ≡ Some (k, y) → P (puts_items W F y (asked_behind F.lasting c y.one) (Do o c) k ++ move_items y (Do o c))) → P (group_items W F o c)
-group_is W F P o c one puts = go (lead (Do o c)) refl
+pub group_is : (W : Whole) (F : Frame) (P : List AsmItem → Type 0) (o : OpT Where) (c : NodesT Where) → P [] → P (one_or_more W F o (in_one W F o c)) → ((k : ℕ) (y : Copying) → lead (Do o c) ≡ Some (k, y) → P (puts_items W F y (asked_behind F.lasting c y.one) (Do o c) k ++ move_items y (Do o c))) → P (group_items W F o c)
+group_is W F P o c none one puts = whole (is_unread (Do o c)) (go (lead (Do o c)) refl)
   where
+    whole : (b : Bool) → P (led_items W F o c (lead (Do o c))) → P (cond b [] (led_items W F o c (lead (Do o c))))
+    whole true h = none
+    whole false h = h
+
     go : (x : Option (ℕ × Copying)) → lead (Do o c) ≡ x → P (led_items W F o c x)
     go None e = one
     go (Some (k, y)) e = puts k y e

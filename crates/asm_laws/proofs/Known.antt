@@ -9,7 +9,7 @@ use Rattle.kit_base.specs.Word.{add}
 use Rattle.either.specs.declared.Either.TheVariants.{Left}
 use Rattle.v32_isa.specs.declared.instruction.Plain.TheVariants.{RET}
 use Rattle.v32_isa.specs.declared.instruction.One.{One as OneOf}
-use Rattle.v32_isa.specs.declared.instruction.Mov.TheVariants.{RegAt, RegAtOff, AtReg, AtOffReg}
+use Rattle.v32_isa.specs.declared.instruction.Mov.TheVariants.{RegImm, RegAt, RegAtOff, AtReg, AtOffReg}
 use Rattle.v32_isa.specs.declared.instruction.Two.{Two as TwoOf}
 use Rattle.v32_isa.specs.declared.instruction.Two.TheVariants.{IADD, ISUB}
 use Rattle.v32_isa.specs.declared.instruction.Src.TheVariants as src
@@ -43,6 +43,7 @@ use Rattle.asm_laws.proofs.Programs.{mapped_from}
 use Rattle.asm_laws.proofs.Walked.{total_more}
 use Rattle.asm_laws.specs.declared.copying.Copying.{Copying}
 use Rattle.asm_laws.specs.Copies.{put_into, goes_to, move_items, copy_items, copy_at, copy_or}
+use Rattle.asm_laws.specs.Asks.{ask_of, ask_or}
 use Rattle.asm_laws.specs.Live.{live_soon, ahead}
 use Rattle.asm_laws.proofs.Putting.{unless_is, moves_are, backs_are}
 use Rattle.asm_laws.proofs.InOne.{TakesWord, one_or_more_is, group_is, next_is}
@@ -223,7 +224,7 @@ module _ (x : CodeT Where) (W : Whole) (Q : List ℕ → Type 0) (of_function : 
   taking_uses _ h = absurd h
 
   one_uses : (m : ℕ) (F : Frame) (o : OpT Where) (c : NodesT Where) → IsOp x m o → Uses Q (one_or_more W F o (in_one W F o c))
-  one_uses m F o c ok = one_or_more_is W F (Uses Q) (λ v. Unit {0}) o c (λ t n e. (tt, tt, λ x y. tt)) (λ t k e. (tt, tt, λ x y. tt)) (op_uses m F o ok) taking_uses (λ p r i lt h. (fetch_uses F p r, taking_uses i h), λ r q i lr lq h. (tt, taking_uses i h))
+  one_uses m F o c ok = one_or_more_is W F (Uses Q) (λ v. Unit {0}) o c (λ t n e. (tt, tt, λ x y. tt)) (λ t k e. (tt, tt, λ x y. tt)) (λ t k e x y. tt) (op_uses m F o ok) taking_uses (λ p r i lt h. (fetch_uses F p r, taking_uses i h), λ r q i lr lq h. (tt, taking_uses i h))
 
   word_uses : (F : Frame) (y : Copying) (o : OpT Where) → Uses Q (word_items W F y o)
   word_uses F y (ConstO (Reg r) n) = (tt, tt)
@@ -248,7 +249,7 @@ module _ (x : CodeT Where) (W : Whole) (Q : List ℕ → Type 0) (of_function : 
   puts_uses F y J (Return p c) k = tt
 
   group_uses : (m : ℕ) (F : Frame) (o : OpT Where) (c : NodesT Where) → IsOp x m o → Uses Q (group_items W F o c)
-  group_uses m F o c ok = group_is W F (Uses Q) o c (one_uses m F o c ok)
+  group_uses m F o c ok = group_is W F (Uses Q) o c tt (one_uses m F o c ok)
       (λ k y e. uses_append Q (puts_items W F y (asked_behind F.lasting c y.one) (Do o c) k) (move_items y (Do o c)) (puts_uses F y (asked_behind F.lasting c y.one) (Do o c) k) (moves_are (Uses Q) tt (uses_append Q) (λ t r. (tt, tt)) y (Do o c)))
 
   next_uses : (m : ℕ) (F : Frame) (o : OpT Where) (c : NodesT Where) → IsOp x m o → Uses Q (next_items W F o c)
@@ -348,6 +349,10 @@ module _ (x : CodeT Where) (W : Whole) (Q : List ℕ → Type 0) (of_function : 
     copied_uses None J xs k go = go k
     copied_uses (Some y) J xs k go = back_uses y J
 
+    asked_uses : (y : Option ℕ) (J : ℕ → Bool) (xs : List AsmItem) → Knows (ask_or y J xs) → (Knows xs → Uses Q xs) → Uses Q (ask_or y J xs)
+    asked_uses None J xs k go = go k
+    asked_uses (Some f) J xs k go = one_of_both (J f) (item.Op (instr.Mov (RegImm (register f) (Left 0))) ∷ []) [] (tt, tt) tt
+
     again_uses : (ls : List ℕ) (k : ℕ) (last : Behind) → Q (jump_label (enclosing ls k)) → Uses Q (again ls k last)
     again_uses ls k last q = one_of_both ((k == 0) && is_turn last) [] (jump (enclosing ls k) ∷ []) tt (q, tt)
 
@@ -396,11 +401,13 @@ module _ (x : CodeT Where) (W : Whole) (Q : List ℕ → Type 0) (of_function : 
           let part = part_items W F out (ls ++ n ∷ []) (n + 2) b in
           let test = test_items W F out (n + 2) b 0 in
           let asked = live_soon ahead F.lasting c in
-          let xs = copy_or (copy_at done b) asked (looped (is_tested b) n all part test) in
+          let turns = looped (is_tested b) n all part test in
+          let own = copy_or (copy_at done b) asked turns in
+          let xs = ask_or (ask_of b) asked own in
           let ys = items_past W F out last ls (n + (2 + labels b)) c 0 in
           uses_append Q xs ys
-          (copied_uses (copy_at done b) asked (looped (is_tested b) n all part test) (λ w h. k w (marked_left xs ys w h)) (λ known. looped_uses (is_tested b) n all part test ls (omega (arith, few)) j known (λ i h. past_uses m b 0 (inside (ends last c)) (true ∷ bs) (ls ++ n ∷ []) (n + 2) (deeper ls n bs true same) ok.0 (omega (arith, few)) i h)
-          (λ i h. part_uses m b (true ∷ bs) (ls ++ n ∷ []) (n + 2) (deeper ls n bs true same) ok.0 (omega (arith, few)) i h) (λ q. test_uses m (n + 2) b 0 (true ∷ bs) ok.0 q)))
+          (asked_uses (ask_of b) asked own (λ w h. k w (marked_left xs ys w h)) (λ owned. copied_uses (copy_at done b) asked turns owned (λ known. looped_uses (is_tested b) n all part test ls (omega (arith, few)) j known (λ i h. past_uses m b 0 (inside (ends last c)) (true ∷ bs) (ls ++ n ∷ []) (n + 2) (deeper ls n bs true same) ok.0 (omega (arith, few)) i h)
+          (λ i h. part_uses m b (true ∷ bs) (ls ++ n ∷ []) (n + 2) (deeper ls n bs true same) ok.0 (omega (arith, few)) i h) (λ q. test_uses m (n + 2) b 0 (true ∷ bs) ok.0 q))))
           (past_uses m c 0 last bs ls (n + (2 + labels b)) same ok.1 (omega (arith, few)) j (λ w h. k w (marked_right xs ys w h)))
       past_uses m (Leave i c) done last bs ls n same ok few j k = ((j i (let l = ok.0 in omega (arith, l, same))).1, past_uses m c 0 last bs ls n same ok.1 few j k)
       past_uses m (Again i c) done last bs ls n same ok few j k =

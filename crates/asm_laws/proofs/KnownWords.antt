@@ -22,10 +22,13 @@ use Rattle.asm_laws.specs.Pieces.{register, is_in, turned, other_word, loads_the
 use Rattle.asm_laws.specs.Spare.{beside, operand, in_slots, at_address, at_sum, index, index_behind, indexed, offset_load, offset_sum, offset_step, offset_behind, offset, adds, element_behind, element, or_else, used_by}
 use Rattle.asm_laws.specs.Spare as groups
 use Rattle.asm_laws.specs.Copies.{copy_after, lead, is_count, is_one}
-use Rattle.asm_laws.specs.Operations.{Frame, Whole, word_put, summed, first_place, unturned, copied, copied_address, with_copy, with_sum, with_word, is_spared, with_known, in_one, more_of}
+use Rattle.asm_laws.specs.Operations.{Frame, Whole, word_put, summed, first_place, unturned, copied, copied_address, with_copy, with_sum, with_word, is_spared, with_known, with_next, with_access, in_one, more_of}
+use Rattle.asm_laws.specs.declared.access.Transfer.{Transfer}
+use Rattle.asm_laws.specs.declared.access.Transfer.TheVariants.{Load, Store}
 use Rattle.asm_laws.specs.inner.Following.{at_front}
 use Rattle.asm_laws.specs.Holds.{Setting, Ctx}
 use Rattle.asm_laws.specs.Calling.{Mach, holder}
+use Rattle.asm_laws.proofs.AccessForms.{Transfers, accessed_case}
 
 -- so many operations come first, which are not led to a block move
 abbrev pub AreOps : ℕ → NodesT Where → Type 0
@@ -220,14 +223,25 @@ word_ops F (Some (r, w)) p c = go (summed r w p) refl
     go None q = copy_ops F r w p c
     go (Some (x, v)) q = loads (sum_alone r w p (x, v) q c) (loads_there r c) refl (_, _) (_, _)
 
-pub one_is : (W : Whole) (F : Frame) (o : OpT Where) (c : NodesT Where) → AreOps (more_of (in_one W F o c)) c
-unfolding in_one
-one_is W F o (Do p c) = go (is_spared F (word_put W o))
+next_ops : (W : Whole) (F : Frame) (o : OpT Where) (c : NodesT Where) → AreOps (more_of (with_next W F o c)) c
+next_ops W F o (Do p c) = go (is_spared F (word_put W o))
   where
     go : (b : Bool) → AreOps (more_of (cond b (with_known W.globals F (word_put W o) (used_by (Do p c))) (with_word F (word_put W o) p c))) (Do p c)
     go true = known_ops W.globals F (word_put W o) (used_by (Do p c)) (Do p c) (used_ops (Do p c))
     go false = word_ops F (word_put W o) p c
-one_is W F o _ = tt
+next_ops W F o _ = tt
+
+last_alone : (u : ℕ) (last : OpT Where) (x : Transfer) → Transfers u last x → Alone last
+last_alone u last (Load v) i c = ap (λ z. lead (Do z c)) i ∙ load_alone (Reg v) (Reg u) c
+last_alone u last (Store a) i c = ap (λ z. lead (Do z c)) i ∙ store_alone (Reg u) a c
+
+pub one_is : (W : Whole) (F : Frame) (o : OpT Where) (c : NodesT Where) → AreOps (more_of (in_one W F o c)) c
+unfolding in_one
+one_is W F =
+    accessed_case F.lasting F.registers (λ o c x. AreOps (more_of (with_access F x (with_next W F o c))) c) (next_ops W F)
+    (λ t l last d x i told. (last_alone t last x i d, tt))
+    (λ r n u p last d x lt apart i told. (step_alone (Reg u) p (Reg r) (Do last d), (last_alone u last x i d, tt)))
+    (λ t l r n u last d x lt apart i told. (word_before (Reg r) n (Reg u) (Reg t) (Reg r) (Do last d), (step_alone (Reg u) (Reg t) (Reg r) (Do last d), (last_alone u last x i d, tt))))
 
 state_of : Did (State Where) → State Where
 state_of (On t) = t

@@ -6,7 +6,9 @@ use Rattle.mid_code.specs.Code.{maybe, NodesT, Stop, Do, Call, Choose, Block, Lo
 use Rattle.asm_laws.specs.declared.copying.Copying.{Copying}
 use Rattle.asm_laws.specs.Copies.{copy_of, copy_at, lead}
 use Rattle.asm_laws.specs.Operations.{Frame, Whole, led_more, group_more}
-use Rattle.asm_laws.specs.Live.{is_place, is_among, is_read, is_put, copy_reads, live, live_at_copy, leads_by, copied_reads, lasts, exposed, copies, exposed_registers, all_last, lasting_registers, Lasts}
+use Rattle.asm_laws.specs.Asks.{ask_of, is_flag, is_unread}
+use Rattle.asm_laws.proofs.Asks.{none_at, live_other, unread_leads}
+use Rattle.asm_laws.specs.Live.{live_at_loop, is_place, is_among, is_read, is_put, copy_reads, live, live_at_copy, leads_by, copied_reads, lasts, exposed, copies, addresses, exposed_registers, all_last, lasting_registers, Lasts}
 use Rattle.asm_laws.proofs.KnownWords.{AreOps, one_is}
 use Rattle.asm_laws.proofs.LiveParts.{or_first, or_second}
 
@@ -54,10 +56,7 @@ live_told h (Choose p a b c) k r e = elim (either (is_place p r) (live h a r || 
   ]
 ]
 live_told h (Block b c) k r e = elim (live_told h b zero r e) [ inl j ↦ inl j | inr j ↦ inr (or_first (exposed true b zero r) _ j) ]
-live_told h (Loop b c) k r e = elim (either (lasts h r) (live_at_copy (copy_of b) r (live h c r)) e) [
-  | inl q ↦ inl q
-  | inr q ↦ go (copy_of b) (is_some (copy_at k b)) q (live_told h c zero r)
-]
+live_told h (Loop b c) k r e = whole (ask_of b) e (live_told h c zero r)
   where
     go : (y : Option Copying) (x : Bool) → live_at_copy y r (live h c r) ≡ true → (live h c r ≡ true → Told h c zero r) →
         (lasts h r ≡ true) ⊎ (cond x (copied_reads y r || exposed true c 0 r) (copied_reads y r || (exposed true b 0 r || exposed true c 0 r)) ≡ true)
@@ -74,6 +73,16 @@ live_told h (Loop b c) k r e = elim (either (lasts h r) (live_at_copy (copy_of b
         second : (x : Bool) → exposed true c 0 r ≡ true → cond x (copy_reads y r || exposed true c 0 r) (copy_reads y r || (exposed true b 0 r || exposed true c 0 r)) ≡ true
         second true p = or_second (copy_reads y r) _ p
         second false p = or_second (copy_reads y r) _ (or_second (exposed true b 0 r) _ p)
+
+    whole : (a : Option ℕ) → live_at_loop a r (live h c r) (lasts h r || live_at_copy (copy_of b) r (live h c r)) ≡ true → (live h c r ≡ true → Told h c zero r) →
+        (lasts h r ≡ true) ⊎ (cond (is_some a) (exposed (not (is_flag a r)) c 0 r) (cond (is_some (copy_at k b)) (copied_reads (copy_of b) r || exposed true c 0 r) (copied_reads (copy_of b) r || (exposed true b 0 r || exposed true c 0 r))) ≡ true)
+    whole None q f = elim (either (lasts h r) (live_at_copy (copy_of b) r (live h c r)) q) [
+      | inl j ↦ inl j
+      | inr j ↦ go (copy_of b) (is_some (copy_at k b)) j f
+    ]
+    whole (Some a) q f =
+        let j = both (not (r == a)) (live h c r) q in
+        subst (λ z. (lasts h r ≡ true) ⊎ (exposed z c 0 r ≡ true)) (sym j.0) (f j.1)
 live_told h (Leave k c) j r e = inl e
 live_told h (Again k c) j r e = inl e
 live_told h (Return p c) k r e = inr (or_first (is_among (maybe p) r) (exposed true c 0 r) e)
@@ -85,8 +94,8 @@ pub opened : (h : List Bool) (c : NodesT Where) → Lasts h (λ i. true) c zero 
 opened h c l r lt e = elim (live_told h c zero r e) [ inl q ↦ q | inr q ↦ l r lt q ]
 
 -- where a loop begins that is not done by a block move
-pub turned : (h : List Bool) (b : NodesT Where) → ((r : ℕ) → r < 9 → copied_reads (copy_of b) r ≡ true → lasts h r ≡ true) → (r : ℕ) → r < 9 → live h (Loop b Stop) r ≡ true → lasts h r ≡ true
-turned h b l r lt e = elim (either (lasts h r) (live_at_copy (copy_of b) r (lasts h r)) e) [ inl q ↦ q | inr q ↦ go (copy_of b) (l r lt) q ]
+pub turned : (h : List Bool) (b : NodesT Where) → ask_of b ≡ None → ((r : ℕ) → r < 9 → copied_reads (copy_of b) r ≡ true → lasts h r ≡ true) → (r : ℕ) → r < 9 → live h (Loop b Stop) r ≡ true → lasts h r ≡ true
+turned h b none l r lt e = elim (either (lasts h r) (live_at_copy (copy_of b) r (lasts h r)) (sym (live_other h b Stop r none) ∙ e)) [ inl q ↦ q | inr q ↦ go (copy_of b) (l r lt) q ]
   where
     go : (y : Option Copying) → (copied_reads y r ≡ true → lasts h r ≡ true) → live_at_copy y r (lasts h r) ≡ true → lasts h r ≡ true
     go None f q = absurd cc
@@ -108,30 +117,40 @@ ops_exposed o (suc k) (Return p c) r h = absurd h
 
 -- what comes behind an operation and those that are done with it
 pub group_lasts : (h : List Bool) (W : Whole) (F : Frame) (o : ℕ → Bool) (p : OpT Where) (c : NodesT Where) → Lasts h o (Do p c) zero → Lasts h (λ r. o r && not (is_put p r)) c (group_more W F p c)
-group_lasts h W F o p c l r lt e = l r lt (or_second (o r && is_read p r) _ (go (lead (Do p c)) refl e))
+group_lasts h W F o p c l r lt e = l r lt (or_second (o r && is_read p r) _ (whole (is_unread (Do p c)) refl e))
   where
     go : (x : Option (ℕ × Copying)) → lead (Do p c) ≡ x → exposed (o r && not (is_put p r)) c (led_more W F p c x) r ≡ true → exposed (o r && not (is_put p r)) c (leads_by (lead (Do p c))) r ≡ true
     go None q i = ap (λ n. exposed (o r && not (is_put p r)) c (leads_by n) r) q ∙ sym (ops_exposed (o r && not (is_put p r)) _ c r (one_is W F p c)) ∙ i
     go (Some (k, y)) q i = ap (λ n. exposed (o r && not (is_put p r)) c (leads_by n) r) q ∙ i
 
+    whole : (b : Bool) → is_unread (Do p c) ≡ b → exposed (o r && not (is_put p r)) c (cond b 0 (led_more W F p c (lead (Do p c)))) r ≡ true → exposed (o r && not (is_put p r)) c (leads_by (lead (Do p c))) r ≡ true
+    whole true q i = ap (λ x. exposed (o r && not (is_put p r)) c (leads_by x) r) (unread_leads p c q) ∙ i
+    whole false q i = go (lead (Do p c)) refl i
+
 -- what comes behind a loop, and what is inside of one that is not done by a block move
 module _ (h : List Bool) (o : ℕ → Bool) (b c : NodesT Where) (k : ℕ) (l : Lasts h o (Loop b c) k) where
-  abbrev Own : Bool → ℕ → Type 0
-  Own x r = cond x ((o r && copied_reads (copy_of b) r) || exposed (o r) c 0 r) (copied_reads (copy_of b) r || (exposed true b 0 r || exposed true c 0 r)) ≡ true
+  abbrev Own : Option ℕ → Bool → ℕ → Type 0
+  Own a x r = cond (is_some a) (exposed (o r && not (is_flag a r)) c 0 r) (cond x ((o r && copied_reads (copy_of b) r) || exposed (o r) c 0 r) (copied_reads (copy_of b) r || (exposed true b 0 r || exposed true c 0 r))) ≡ true
+
+  own : (a : Option ℕ) (x : Bool) → ask_of b ≡ a → is_some (copy_at k b) ≡ x → (r : ℕ) → r < 9 → Own a x r → lasts h r ≡ true
+  own a x q i r lt e = l r lt (subst (λ z. Own z (is_some (copy_at k b)) r) (sym q) (subst (λ z. Own a z r) (sym i) e))
+
+  pub ask_lasts : (f : ℕ) → ask_of b ≡ Some f → Lasts h (λ r. o r && not (r == f)) c zero
+  ask_lasts f q r lt e = own (Some f) (is_some (copy_at k b)) q refl r lt e
 
   pub copied_lasts : (y : Copying) → copy_at k b ≡ Some y → Lasts h o c zero
-  copied_lasts y q r lt e = l r lt (subst (λ z. Own (is_some z) r) (sym q) (or_second (o r && copied_reads (copy_of b) r) (exposed (o r) c 0 r) e))
+  copied_lasts y q r lt e = own None true (none_at k b y q) (ap is_some q) r lt (or_second (o r && copied_reads (copy_of b) r) (exposed (o r) c 0 r) e)
 
-  plain_lasts : copy_at k b ≡ None → (r : ℕ) → r < 9 → copied_reads (copy_of b) r || (exposed true b 0 r || exposed true c 0 r) ≡ true → lasts h r ≡ true
-  plain_lasts q r lt e = l r lt (subst (λ z. Own (is_some z) r) (sym q) e)
+  plain_lasts : (ask_of b ≡ None) × (copy_at k b ≡ None) → (r : ℕ) → r < 9 → copied_reads (copy_of b) r || (exposed true b 0 r || exposed true c 0 r) ≡ true → lasts h r ≡ true
+  plain_lasts q r lt e = own None false q.0 (ap is_some q.1) r lt e
 
-  pub turns_last : copy_at k b ≡ None → (r : ℕ) → r < 9 → copied_reads (copy_of b) r ≡ true → lasts h r ≡ true
+  pub turns_last : (ask_of b ≡ None) × (copy_at k b ≡ None) → (r : ℕ) → r < 9 → copied_reads (copy_of b) r ≡ true → lasts h r ≡ true
   turns_last q r lt e = plain_lasts q r lt (or_first (copied_reads (copy_of b) r) _ e)
 
-  pub body_last : copy_at k b ≡ None → Lasts h (λ i. true) b zero
+  pub body_last : (ask_of b ≡ None) × (copy_at k b ≡ None) → Lasts h (λ i. true) b zero
   body_last q r lt e = plain_lasts q r lt (or_second (copied_reads (copy_of b) r) _ (or_first (exposed true b 0 r) (exposed true c 0 r) e))
 
-  pub rest_last : copy_at k b ≡ None → Lasts h (λ i. true) c zero
+  pub rest_last : (ask_of b ≡ None) × (copy_at k b ≡ None) → Lasts h (λ i. true) c zero
   rest_last q r lt e = plain_lasts q r lt (or_second (copied_reads (copy_of b) r) _ (or_second (exposed true b 0 r) (exposed true c 0 r) e))
 
 -- ---- bodies
@@ -162,7 +181,7 @@ every_lasts (suc (suc (suc (suc (suc (suc (suc (suc (suc r))))))))) lt = absurd 
 
 pub body_lasts : (body : NodesT Where) → Lasts (lasting_registers body) (λ r. false) body zero
 unfolding lasting_registers
-body_lasts body r lt e = go (copies body)
+body_lasts body r lt e = go (copies body || addresses body)
   where
     go : (b : Bool) → lasts (cond b (exposed_registers body) all_last) r ≡ true
     go true = exposed_lasts body r lt e

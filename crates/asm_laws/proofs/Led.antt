@@ -34,12 +34,18 @@ use Rattle.asm_laws.specs.Copies.{copy_of, put_into, is_from, is_moved, is_left,
 use Rattle.asm_laws.proofs.Leads.{copy_is, puts_before, puts_elim, some_put, put_elim, takes_moved, AllClear, lead_is}
 use Rattle.asm_laws.proofs.Leading.{next_sparing}
 use Rattle.asm_laws.proofs.Split.{split}
-use Rattle.asm_laws.proofs.Spared.{uses_stay}
-use Rattle.asm_laws.proofs.KnownWords.{one_is, ops_ahead, Stored, counted, one_is_known, put_stored}
+use Rattle.asm_laws.proofs.Spared.{uses_stay, access_stays}
+use Rattle.asm_laws.proofs.Accessed.{AccessDone, access_done}
+use Rattle.asm_laws.proofs.LiveParts.{StoodBehind, behind_front}
+use Rattle.asm_laws.specs.declared.access.Address.{Address}
+use Rattle.asm_laws.specs.declared.access.Transfer.{Transfer}
+use Rattle.asm_laws.specs.Accesses.{accessed}
+use Rattle.asm_laws.proofs.KnownWords.{AreOps, one_is, ops_ahead, Stored, counted, one_is_known, put_stored}
 use Rattle.asm_laws.proofs.Control.{came_came, came_final, earlier_did, did_more}
 use Rattle.asm_laws.specs.Pieces.{register, is_in}
 use Rattle.asm_laws.specs.Live.{live_soon, ahead, asked_behind}
-use Rattle.asm_laws.specs.Operations.{Frame, keep, local_word, moves, in_one, more_of, put_items, puts_items, led_items, led_more}
+use Rattle.asm_laws.specs.Asks.{is_unread}
+use Rattle.asm_laws.specs.Operations.{Frame, Whole, keep, local_word, moves, with_next, with_access, in_one, one_or_more, more_of, put_items, puts_items, led_items, led_more}
 use Rattle.asm_laws.specs.Operations as operations
 use Rattle.asm_laws.specs.Standing.{Stand}
 use Rattle.asm_laws.specs.Spare.{Stays, Sparing}
@@ -48,7 +54,7 @@ use Rattle.asm_laws.specs.Addresses.{Addr, Console, word_of, local_address, havi
 use Rattle.asm_laws.specs.Addresses as words
 use Rattle.asm_laws.specs.Holds.{Setting, sizes, Named, Fits, Ctx, HoldsAt}
 use Rattle.asm_laws.specs.Acting.{Holds, DoesAs, Fitting, FrontFits}
-use Rattle.asm_laws.specs.Calling.{Mach, Ready, ReadyFor, lang, holder, shapes}
+use Rattle.asm_laws.specs.Calling.{Mach, Like, Ready, ReadyFor, lang, holder, shapes}
 use Rattle.asm_laws.proofs.Parts.{done}
 use Rattle.asm_laws.proofs.Stepping.{same_or_not, written_same, written_other, line_effect, line_turn, took, kept, reg_same, reg_other, moved, fetch_act}
 use Rattle.asm_laws.proofs.BlockMove.{aside}
@@ -637,10 +643,22 @@ module _ (S : Setting) (fits : Fits S) (κ : Ctx) where
   by_in m b p (suc k) R (On t) le h = h
   by_in m b p (suc k) R (Ends f t) le h = h
 
+  abbrev OneDone : (pc p : ℕ) → State Where → machine.State → OpT Where → NodesT Where → Option (ℕ × Option (Instr Imm) × Instr Imm) → Type 0
+  OneDone pc p s m o c z = AreOps (more_of z) c → FrontFits S κ.fn c (more_of z) → Here pc (one_or_more S.whole (S.whole.frames κ.fn) o z) p
+      → DidBy (holder S) m (begin (holder S) s) p (StoodBehind S κ c (more_of z)) (did_then ((lang S).act o s) (front_acts (lang S) c (more_of z)))
+
+  in_one_is : (W : Whole) (F : Frame) (o : OpT Where) (c : NodesT Where) → in_one W F o c ≡ with_access F (accessed F.lasting F.registers o c) (with_next W F o c)
+  unfolding in_one
+  in_one_is W F o c = refl
+
   -- an operation, and those that are done with it
-  pub op_sim : (pc p more : ℕ) (o : OpT Where) (c : NodesT Where) (s : State Where) (m : machine.State) → (shapes S).op κ.fn pc o c more p → m.counter ≡ pc → Mach S κ s m → DidBy (holder S) m (begin (holder S) s) p (at_front (holder S) κ c more) (did_then ((lang S).act o s) (front_acts (lang S) c more))
-  op_sim pc p more o c s m st e h =
-      subst (λ n. DidBy (holder S) m (begin (holder S) s) p (at_front (holder S) κ c n) (did_then ((lang S).act o s) (front_acts (lang S) c n))) (sym st.3) (go (lead (Do o c)) refl (subst (λ n. FrontFits S κ.fn c n) st.3 st.1) st.2)
+  pub op_sim : (pc p more : ℕ) (o : OpT Where) (c : NodesT Where) (s : State Where) (m : machine.State) → is_unread (Do o c) ≡ false → (shapes S).op κ.fn pc o c more p → m.counter ≡ pc → Mach S κ s m → DidBy (holder S) m (begin (holder S) s) p (StoodBehind S κ c more) (did_then ((lang S).act o s) (front_acts (lang S) c more))
+  op_sim pc p more o c s m asked st e h =
+      let F = S.whole.frames κ.fn in
+      let x = lead (Do o c) in
+      let count : more ≡ led_more S.whole F o c x = st.3 ∙ ap (λ b. cond b 0 (led_more S.whole F o c x)) asked in
+      subst (λ n. DidBy (holder S) m (begin (holder S) s) p (StoodBehind S κ c n) (did_then ((lang S).act o s) (front_acts (lang S) c n))) (sym count)
+      (go x refl (subst (λ n. FrontFits S κ.fn c n) count st.1) (subst (λ b. Here pc (cond b [] (led_items S.whole F o c x)) p) asked st.2))
     where
       low : (r : ℕ) → r < 9 → r ≢ 8 → r < (S.whole.frames κ.fn).registers
       low r lt ne = elim (nine_or_eight (Do o c) st.4) [ inl z ↦ omega (arith, z, lt) | inr z ↦ omega (arith, z, lt, ne) ]
@@ -662,13 +680,22 @@ module _ (S : Setting) (fits : Fits S) (κ : Ctx) where
         count = h.like y.count (low y.count ro.count ro.count_eight);
       }
 
-      go : (x : Option (ℕ × Copying)) → lead (Do o c) ≡ x → FrontFits S κ.fn c (led_more S.whole (S.whole.frames κ.fn) o c x) → Here pc (led_items S.whole (S.whole.frames κ.fn) o c x) p → DidBy (holder S) m (begin (holder S) s) p (at_front (holder S) κ c (led_more S.whole (S.whole.frames κ.fn) o c x)) (did_then ((lang S).act o s) (front_acts (lang S) c (led_more S.whole (S.whole.frames κ.fn) o c x)))
-      go None q ff items =
-          let k = more_of (in_one S.whole F o c) in
-          did_more (lang S) (holder S) m (begin (holder S) s) p (Mach S κ) (at_front (holder S) κ c k) (did_then ((lang S).act o s) (front_acts (lang S) c k)) (λ t u w. ops_ahead S κ k c t u (one_is S.whole F o c) w)
-          (done S fits κ pc p s m e h o c st.0 st.4 ff items)
+      -- those that are done in one go
+      one : (x : Option (ℕ × Address × Transfer)) → accessed (S.whole.frames κ.fn).lasting (S.whole.frames κ.fn).registers o c ≡ x → OneDone pc p s m o c (with_access (S.whole.frames κ.fn) x (with_next S.whole (S.whole.frames κ.fn) o c))
+      one None q ops ff items =
+          let k = more_of (with_next S.whole F o c) in
+          did_more (lang S) (holder S) m (begin (holder S) s) p (Mach S κ) (StoodBehind S κ c k) (did_then ((lang S).act o s) (front_acts (lang S) c k)) (λ t u w. inl (ops_ahead S κ k c t u ops w)) (done S fits κ pc p s m e h o c st.0 st.4 ff items)
+      one (Some (k, y, x)) q ops ff items =
+          let soon = Like (live_soon ahead (S.whole.frames κ.fn).lasting (behind_front S c k)) (Mach S κ) in
+          let d = subst (AccessDone S fits κ pc p s m e h o c) q (access_done S fits κ pc p s m e h o c) in
+          did_more (lang S) (holder S) m (begin (holder S) s) p soon (StoodBehind S κ c k) (did_then ((lang S).act o s) (front_acts (lang S) c k)) (λ t u w. inr (ops, w))
+          (d st.0 ff (access_stays S κ.fn S.whole F o c k y x q st.4 (st.0, ff)) items)
+
+      go : (x : Option (ℕ × Copying)) → lead (Do o c) ≡ x → FrontFits S κ.fn c (led_more S.whole (S.whole.frames κ.fn) o c x) → Here pc (led_items S.whole (S.whole.frames κ.fn) o c x) p → DidBy (holder S) m (begin (holder S) s) p (StoodBehind S κ c (led_more S.whole (S.whole.frames κ.fn) o c x)) (did_then ((lang S).act o s) (front_acts (lang S) c (led_more S.whole (S.whole.frames κ.fn) o c x)))
+      go None q ff items = subst (OneDone pc p s m o c) (sym (in_one_is S.whole F o c)) (one (accessed F.lasting F.registers o c) refl) (one_is S.whole F o c) ff items
       go (Some (k, y)) q ff items =
           let l = lead_is (Do o c) k y q in
           let ro = roles_behind (Do o c) k y l.puts st.5 in
-          by_in m (begin (holder S) s) p k (at_front (holder S) κ c k) (did_then ((lang S).act o s) (front_acts (lang S) c k)) (some_put (Do o c) k y l.puts)
-          (puts_led (Do o c) k y l.puts false false false None None s m pc p ro (st.0, ff) st.4 l.clear items e (begins y ro) (λ n i. absurd cc) (λ n i. absurd cc) l.count l.one)
+          did_more (lang S) (holder S) m (begin (holder S) s) p (at_front (holder S) κ c k) (StoodBehind S κ c k) (did_then ((lang S).act o s) (front_acts (lang S) c k)) (λ t u w. inl w)
+          (by_in m (begin (holder S) s) p k (at_front (holder S) κ c k) (did_then ((lang S).act o s) (front_acts (lang S) c k)) (some_put (Do o c) k y l.puts)
+          (puts_led (Do o c) k y l.puts false false false None None s m pc p ro (st.0, ff) st.4 l.clear items e (begins y ro) (λ n i. absurd cc) (λ n i. absurd cc) l.count l.one))

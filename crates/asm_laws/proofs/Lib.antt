@@ -11,6 +11,11 @@ pub mod First
 pub mod Alongside
 pub mod Spared
 pub mod Leads
+pub mod AccessForms
+pub mod AccessStep
+pub mod Accessed
+pub mod Asks
+pub mod AskLoop
 pub mod Led
 pub mod Leading
 pub mod BlockMove

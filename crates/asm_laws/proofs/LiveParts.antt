@@ -16,17 +16,20 @@ use Rattle.mid_code.specs.Code.{OpT, LoadO, StoreO, TwoO, StepO, NodesT, Stop, D
 use Rattle.mid_code.specs.Invariants.{AllOf}
 use Rattle.mid_code.specs.Meaning.{Did, On, Ends, Res, Next, Repeats, Returns, Over, then_next, did, turn_done, choose, does, below, node_weight}
 use Rattle.mid_code.specs.States.{State, spent, word_tested}
-use Rattle.asm_laws.specs.Live.{lasts, is_among, is_read, is_put, live, live_soon, live_at_copy, copy_reads}
+use Rattle.asm_laws.specs.Live.{lasts, is_among, is_read, is_put, live, live_soon, ahead, live_at_copy, live_at_loop, copy_reads}
 use Rattle.asm_laws.specs.inner.Following.{Begin, begin, CameBy, Stopped, Going, Final, Sim, DidBy, did_then, front_acts, at_front}
 use Rattle.asm_laws.specs.Placing.{Bounds, begin_of, owed, due}
 use Rattle.asm_laws.specs.Holds.{Setting, sizes, Named, Ctx, Stands, HoldsAt}
 use Rattle.asm_laws.specs.Acting.{Fitting, FrontFits}
 use Rattle.asm_laws.specs.Copies.{copy_of}
+use Rattle.asm_laws.specs.Asks.{ask_of}
 use Rattle.asm_laws.specs.declared.copying.Copying.{Copying}
 use Rattle.asm_laws.specs.Calling.{Mach, Given, Same, Like, live_at, lang, holder, live_holder}
+use Rattle.asm_laws.proofs.Asks.{no_ask, live_other}
 use Rattle.asm_laws.proofs.Leads.{Copier, Filler, copying, filling, copy_turn, fill_turn}
 use Rattle.asm_laws.proofs.Spared.{named_uses}
-use Rattle.asm_laws.proofs.Likeness.{Reads, DidSame, same_self, same_weaker, cell_same, op_same}
+use Rattle.asm_laws.proofs.KnownWords.{AreOps}
+use Rattle.asm_laws.proofs.Likeness.{Reads, DidSame, same_self, same_weaker, same_trans, cell_same, op_same}
 
 pub or_second : (p q : Bool) → q ≡ true → p || q ≡ true
 or_second true q e = refl
@@ -70,6 +73,10 @@ copy_more : (y : Option Copying) (r : ℕ) (p q : Bool) → (p ≡ true → q �
 copy_more None r p q f e = absurd cc
 copy_more (Some y) r p q f e = or_more (copy_reads y r) (not (r == y.cell) && p) (not (r == y.cell) && q) (and_more (not (r == y.cell)) p q f) e
 
+loop_more : (y : Option ℕ) (r : ℕ) (p q o s : Bool) → (p ≡ true → q ≡ true) → (o ≡ true → s ≡ true) → live_at_loop y r p o ≡ true → live_at_loop y r q s ≡ true
+loop_more None r p q o s f g e = g e
+loop_more (Some y) r p q o s f g e = and_more (not (r == y)) p q f e
+
 -- what is live as so many nodes tell
 pub soon_live : (n : ℕ) (h : List Bool) (c : NodesT Where) (r : ℕ) → live h c r ≡ true → live_soon n h c r ≡ true
 soon_live zero h c r e = refl
@@ -80,7 +87,8 @@ soon_live (suc n) h (Call t f args c) r e = e
 soon_live (suc n) h (Choose p a b c) r e = refl
 soon_live (suc n) h (Block b c) r e = soon_live n h b r e
 soon_live (suc n) h (Loop b c) r e =
-    or_more (lasts h r) (live_at_copy (copy_of b) r (live h c r)) (live_at_copy (copy_of b) r (live_soon n h c r)) (copy_more (copy_of b) r (live h c r) (live_soon n h c r) (λ q. soon_live n h c r q)) e
+    loop_more (ask_of b) r (live h c r) (live_soon n h c r) (lasts h r || live_at_copy (copy_of b) r (live h c r)) (lasts h r || live_at_copy (copy_of b) r (live_soon n h c r)) (λ q. soon_live n h c r q)
+    (or_more (lasts h r) (live_at_copy (copy_of b) r (live h c r)) (live_at_copy (copy_of b) r (live_soon n h c r)) (copy_more (copy_of b) r (live h c r) (live_soon n h c r) (λ q. soon_live n h c r q))) e
 soon_live (suc n) h (Leave k c) r e = e
 soon_live (suc n) h (Again k c) r e = e
 soon_live (suc n) h (Return p c) r e = e
@@ -155,7 +163,7 @@ module _ (S : Setting) where
   -- ---- operations
 
   -- what comes behind the first operations, so many
-  pub behind_front : NodesT Where → ℕ → NodesT Where
+  unfoldable pub behind_front : NodesT Where → ℕ → NodesT Where
   behind_front (Do o c) zero = Do o c
   behind_front (Do o c) (suc k) = behind_front c k
   behind_front Stop k = Stop
@@ -207,14 +215,45 @@ module _ (S : Setting) where
     stands_like (Again j c) k t s m g h = record { other = t; same = g; held = h }
     stands_like (Return w c) k t s m g h = record { other = t; same = g; held = h }
 
+    -- so many operations come first, and the machine holds what is live behind them
+    ops_like : (k : ℕ) (c : NodesT Where) (t : State Where) (m : machine.State) → AreOps k c → Like (live_at S κ (behind_front c k)) (Mach S κ) t m → at_front (live_holder S) κ c k t m
+    unfolding behind_front
+    ops_like zero Stop t m a h = h
+    ops_like zero (Do o c) t m a h = h
+    ops_like zero (Call x f args c) t m a h = h
+    ops_like zero (Choose w x y c) t m a h = h
+    ops_like zero (Block b c) t m a h = h
+    ops_like zero (Loop b c) t m a h = h
+    ops_like zero (Leave j c) t m a h = h
+    ops_like zero (Again j c) t m a h = h
+    ops_like zero (Return w c) t m a h = h
+    ops_like (suc k) (Do o c) t m a h = ops_like k c t m a.1 h
+    ops_like (suc k) _ t m a h = absurd a
+
+    -- how the machine stands behind operations that are done together: it holds the state, or what is asked for of it
+    abbrev pub StoodBehind : NodesT Where → ℕ → State Where → machine.State → Type 0
+    StoodBehind c k t m = at_front (holder S) κ c k t m ⊎ (AreOps k c × Like (live_soon ahead (S.whole.frames κ.fn).lasting (behind_front c k)) (Mach S κ) t m)
+
+    stood_like : (c : NodesT Where) (k : ℕ) (t u : State Where) (m : machine.State) → Same (live_at S κ (behind_front c k)) t u → StoodBehind c k t m → at_front (live_holder S) κ c k u m
+    stood_like c k t u m g (inl h) = stands_like c k t u m g h
+    stood_like c k t u m g (inr h) =
+        let d = behind_front c k in
+        let soon = live_soon ahead (S.whole.frames κ.fn).lasting d in
+        let w = h.1 in
+        ops_like k c u m h.0 (record {
+          other = w.other;
+          same = same_trans (live_at S κ d) w.other t u (same_weaker soon (live_at S κ d) w.other t (λ r lt e. soon_live ahead (S.whole.frames κ.fn).lasting d r e) w.same) g;
+          held = w.held;
+        })
+
     pub op_like : (m : machine.State) (p more : ℕ) (o : OpT Where) (c : NodesT Where) (s : State Where) → Fitting S κ.fn o → FrontFits S κ.fn c more → (h : Like (live_at S κ (Do o c)) (Mach S κ) s m) →
-        DidBy (holder S) m (begin (holder S) h.other) p (at_front (holder S) κ c more) (did_then ((lang S).act o h.other) (front_acts (lang S) c more)) →
+        DidBy (holder S) m (begin (holder S) h.other) p (StoodBehind c more) (did_then ((lang S).act o h.other) (front_acts (lang S) c more)) →
         DidBy (live_holder S) m (begin (live_holder S) s) p (at_front (live_holder S) κ c more) (did_then ((lang S).act o s) (front_acts (lang S) c more))
     op_like m p more o c s fit front h d =
-        did_like (live_at S κ (behind_front c more)) m (begin (live_holder S) s) p (at_front (holder S) κ c more) (at_front (live_holder S) κ c more) _ _
+        did_like (live_at S κ (behind_front c more)) m (begin (live_holder S) s) p (StoodBehind c more) (at_front (live_holder S) κ c more) _ _
         (then_same (live_at S κ c) (live_at S κ (behind_front c more)) _ _ (front_acts (lang S) c more) (act_same o c h.other s fit h.same) (λ u v g. front_same c more u v front g))
-        (λ t u m1 g e. stands_like c more t u m1 g e)
-        (subst (λ b. DidBy (holder S) m b p (at_front (holder S) κ c more) (did_then ((lang S).act o h.other) (front_acts (lang S) c more))) (begin_same h.other s h.same.world) d)
+        (λ t u m1 g e. stood_like c more t u m1 g e)
+        (subst (λ b. DidBy (holder S) m b p (StoodBehind c more) (did_then ((lang S).act o h.other) (front_acts (lang S) c more))) (begin_same h.other s h.same.world) d)
 
     -- ---- loops that copy or fill, and results
 
@@ -297,9 +336,12 @@ module _ (S : Setting) where
       abbrev A : ℕ → Bool
       A = live_at S κ (Loop b c)
 
+      in_loop : (r : ℕ) → lasts (S.whole.frames κ.fn).lasting r || live_at_copy (copy_of b) r (live_at S κ c r) ≡ true → live_at S κ (Loop b c) r ≡ true
+      in_loop r e = live_other (S.whole.frames κ.fn).lasting b c r (no_ask b y is) ∙ e
+
       pub reads_live : (r : ℕ) → copy_reads y r ≡ true → live_at S κ (Loop b c) r ≡ true
-      reads_live r e = or_second (lasts (S.whole.frames κ.fn).lasting r) (live_at_copy (copy_of b) r (live_at S κ c r))
-          (subst (λ z. live_at_copy z r (live_at S κ c r) ≡ true) (sym is) (or_first (copy_reads y r) (not (r == y.cell) && live_at S κ c r) e))
+      reads_live r e = in_loop r (or_second (lasts (S.whole.frames κ.fn).lasting r) (live_at_copy (copy_of b) r (live_at S κ c r))
+          (subst (λ z. live_at_copy z r (live_at S κ c r) ≡ true) (sym is) (or_first (copy_reads y r) (not (r == y.cell) && live_at S κ c r) e)))
 
       -- what is live behind it
       pub behind_live : (r : ℕ) → live_at S κ c r ≡ true → (r == y.cell) || live_at S κ (Loop b c) r ≡ true
@@ -307,8 +349,8 @@ module _ (S : Setting) where
         where
           go : (x : Bool) → (r == y.cell) ≡ x → (r == y.cell) || live_at S κ (Loop b c) r ≡ true
           go true q = or_first (r == y.cell) (live_at S κ (Loop b c) r) q
-          go false q = or_second (r == y.cell) (live_at S κ (Loop b c) r) (or_second (lasts (S.whole.frames κ.fn).lasting r) (live_at_copy (copy_of b) r (live_at S κ c r))
-              (subst (λ z. live_at_copy z r (live_at S κ c r) ≡ true) (sym is) (or_second (copy_reads y r) (not (r == y.cell) && live_at S κ c r) ((λ i. not (q i) && live_at S κ c r) ∙ e))))
+          go false q = or_second (r == y.cell) (live_at S κ (Loop b c) r) (in_loop r (or_second (lasts (S.whole.frames κ.fn).lasting r) (live_at_copy (copy_of b) r (live_at S κ c r))
+              (subst (λ z. live_at_copy z r (live_at S κ c r) ≡ true) (sym is) (or_second (copy_reads y r) (not (r == y.cell) && live_at S κ c r) ((λ i. not (q i) && live_at S κ c r) ∙ e)))))
 
     abbrev pub cell_or : (cell : ℕ) → (ℕ → Bool) → ℕ → Bool
     cell_or cell A r = (r == cell) || A r

@@ -1,5 +1,5 @@
 -- Copies, results, tests and calls are followed by a machine that holds what is live.
-use Rattle.std.proofs.Common.{◌≡◌, ℕ, zero, suc, ◌+◌, ◌*◌, ◌≤◌, inl, inr, Bool, true, false, List, [], ◌∷◌, length, Option, Some, None, refl, sym, ap, subst}
+use Rattle.std.proofs.Common.{◌≡◌, ℕ, zero, suc, ◌+◌, ◌*◌, ◌≤◌, inl, inr, Bool, true, false, List, [], ◌∷◌, length, Option, Some, None, refl, sym, ap, ◌∙◌, subst}
 use Rattle.std.specs.Prelude.{◌==◌, ◌||◌, map}
 use Rattle.std.proofs.lemmas.Bool.{eqb-true}
 use Rattle.v32_isa.specs.State.{going_to}
@@ -24,6 +24,7 @@ use Rattle.asm_laws.specs.Acting.{Fitting, FrontFits}
 use Rattle.asm_laws.specs.Copies.{copy_at, copy_of}
 use Rattle.asm_laws.specs.declared.copying.Copying.{Copying}
 use Rattle.asm_laws.specs.Calling.{Mach, Given, ExitAt, Ready, Same, Like, live_at, lang, holder, live_holder, CallAt, MadeAt, GivingAt, Callable, FunctionAt, shapes}
+use Rattle.asm_laws.proofs.Asks.{no_ask, live_other}
 use Rattle.asm_laws.proofs.Leads.{copying, filling, copy_is}
 use Rattle.asm_laws.proofs.Parts.{jump_sim, test_sim, give_sim}
 use Rattle.asm_laws.proofs.GivenBack.{made_sim}
@@ -52,7 +53,7 @@ module _ (S : Setting) (fits : Fits S) where
     live_behind r e = subst (λ z. (r == z) || live_at S κ (Loop b c) r ≡ true) cell_is (behind_live S κ b c y is r e)
 
     live_stop : (r : ℕ) → live_at S κ Stop r ≡ true → cell_or S κ cell (live_at S κ (Loop b c)) r ≡ true
-    live_stop r e = or_second (r == cell) (live_at S κ (Loop b c) r) (or_first (lasts (S.whole.frames κ.fn).lasting r) _ e)
+    live_stop r e = or_second (r == cell) (live_at S κ (Loop b c) r) (live_other (S.whole.frames κ.fn).lasting b c r (no_ask b y is) ∙ or_first (lasts (S.whole.frames κ.fn).lasting r) _ e)
 
     module _ (p n : ℕ) (ls : List Bounds) (s : State Where) (m : machine.State) where
       abbrev done : State Where → Res (State Where)

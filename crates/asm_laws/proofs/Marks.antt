@@ -2,6 +2,7 @@
 use Rattle.std.proofs.Common.{◌≡◌, ◌≢◌, ℕ, zero, suc, ◌+◌, ◌^◌, ◌<◌, ◌≤◌, Bool, true, false, cond, List, [], ◌∷◌, ◌++◌, length, map, Option, Some, None, refl, sym, ◌∙◌, subst, arith, append_assoc}
 use Rattle.std.specs.Prelude.{◌==◌, ◌&&◌}
 use Rattle.either.specs.declared.Either.TheVariants.{Left}
+use Rattle.v32_isa.specs.declared.instruction.Mov.TheVariants.{RegImm}
 use Rattle.v32_isa.specs.declared.instruction.Plain.TheVariants.{RET}
 use Rattle.v32_isa.specs.declared.instruction.One.{One as OneOf}
 use Rattle.v32_isa.specs.declared.instruction.Two.{Two as TwoOf}
@@ -24,6 +25,7 @@ use Rattle.asm_laws.specs.declared.behind.Behind.TheVariants.{Other, End, Turn}
 use Rattle.asm_laws.specs.inner.Emitted.{labels, functions_labels, enclosing, jump, jump_unless, mark, choice, one_way, alone, left_to, ends, jump_when, is_stop, enclosed, leaving, left_by, items_past, code_items, entry_items, exit_items, function_items, functions_items, closing_items, start_items, program_items, labels_of, inside, is_end, is_turn, again, rotated, looped, is_tested, part_items, test_items}
 use Rattle.asm_laws.specs.declared.copying.Copying.{Copying}
 use Rattle.asm_laws.specs.Copies.{put_into, goes_to, move_items, copy_items, copy_at, copy_or}
+use Rattle.asm_laws.specs.Asks.{ask_of, asked_items, ask_or}
 use Rattle.asm_laws.specs.Live.{live_soon, ahead}
 use Rattle.asm_laws.proofs.Putting.{unless_is, moves_are, backs_are}
 use Rattle.asm_laws.proofs.InOne.{one_or_more_is, group_is, next_is}
@@ -199,7 +201,7 @@ module _ (W : Whole) (differ : Differ W.names) where
   op_bare F HaltO = tt
 
   one_bare : (F : Frame) (o : OpT Where) (c : NodesT Where) → Bare (one_or_more W F o (in_one W F o c))
-  one_bare F o c = one_or_more_is W F (λ xs. Bare xs) (λ v. Unit {0}) o c (λ t n e. (tt, tt, λ x y. tt)) (λ t k e. (tt, tt, λ x y. tt)) (op_bare F o) (λ i h. tt) (λ p r i lt h. tt, λ r q i lr lq h. tt)
+  one_bare F o c = one_or_more_is W F (λ xs. Bare xs) (λ v. Unit {0}) o c (λ t n e. (tt, tt, λ x y. tt)) (λ t k e. (tt, tt, λ x y. tt)) (λ t k e x y. tt) (op_bare F o) (λ i h. tt) (λ p r i lt h. tt, λ r q i lr lq h. tt)
 
   word_bare : (F : Frame) (y : Copying) (o : OpT Where) → Bare (word_items W F y o)
   word_bare F y (ConstO (Reg r) n) = tt
@@ -224,7 +226,7 @@ module _ (W : Whole) (differ : Differ W.names) where
   puts_bare F y J (Return p c) k = tt
 
   group_bare : (F : Frame) (o : OpT Where) (c : NodesT Where) → Bare (group_items W F o c)
-  group_bare F o c = group_is W F (λ xs. Bare xs) o c (one_bare F o c) (λ k y e. names_append (λ m. ⊥) (puts_items W F y (asked_behind F.lasting c y.one) (Do o c) k) (move_items y (Do o c)) (puts_bare F y (asked_behind F.lasting c y.one) (Do o c) k) (moves_are (λ xs. Bare xs) tt (names_append (λ m. ⊥)) (λ t r. tt) y (Do o c)))
+  group_bare F o c = group_is W F (λ xs. Bare xs) o c tt (one_bare F o c) (λ k y e. names_append (λ m. ⊥) (puts_items W F y (asked_behind F.lasting c y.one) (Do o c) k) (move_items y (Do o c)) (puts_bare F y (asked_behind F.lasting c y.one) (Do o c) k) (moves_are (λ xs. Bare xs) tt (names_append (λ m. ⊥)) (λ t r. tt) y (Do o c)))
 
   next_bare : (F : Frame) (o : OpT Where) (c : NodesT Where) → Bare (next_items W F o c)
   next_bare F o c = next_is W F (λ xs. Bare xs) (λ v. Unit {0}) o c (λ t n e. (tt, tt, λ x y. tt)) (λ t k e. (tt, tt, λ x y. tt)) (λ i h. tt) (λ p r i lt h. tt, λ r q i lr lq h. tt) (λ u t a b e. brought_bare F b 10 _ tt) (group_bare F o c)
@@ -294,6 +296,10 @@ module _ (W : Whole) (differ : Differ W.names) where
   copied_marks None J r xs m = m
   copied_marks (Some y) J r xs m = marks_bare r (copy_items y J) (copy_bare y J)
 
+  asked_marks : (y : Option ℕ) (J : ℕ → Bool) (r : Range) (xs : List AsmItem) → Marks r xs → Marks r (ask_or y J xs)
+  asked_marks None J r xs m = m
+  asked_marks (Some f) J r xs m = marks_bare r (asked_items f (J f)) (one_of_both (J f) (item.Op (instr.Mov (RegImm (register f) (Left 0))) ∷ []) [] tt tt)
+
   again_bare : (ls : List ℕ) (k : ℕ) (last : Behind) → Bare (again ls k last)
   again_bare ls k last = one_of_both ((k == 0) && is_turn last) [] (jump (enclosing ls k) ∷ []) tt tt
 
@@ -355,9 +361,10 @@ module _ (W : Whole) (differ : Differ W.names) where
           let test = test_items W F out (n + 2) b 0 in
           let up : n + 2 + 1 ≡ n + 3 = omega arith in
           let asked = live_soon ahead F.lasting c in
-          rising n k e (copy_or (copy_at done b) asked (looped (is_tested b) n all part test)) (items_past W F out last ls k c 0) (omega arith) (omega (arith, is))
-          (copied_marks (copy_at done b) asked (jumps n k) (looped (is_tested b) n all part test) (looped_marks (is_tested b) n k all part test (omega arith) (omega (arith, is, few)) (past_marks b 0 (inside (ends last c)) (ls ++ n ∷ []) (n + 2) k (omega arith) (omega (arith, is, few)))
-          (λ t. let r = some_label b t in (omega (arith, r), subst (λ h. Marks (jumps h k) part) up (part_marks b (ls ++ n ∷ []) (n + 2) k (omega arith) (omega (arith, is, few))))) (test_bare (n + 2) b 0)))
+          let turns = looped (is_tested b) n all part test in
+          rising n k e (ask_or (ask_of b) asked (copy_or (copy_at done b) asked turns)) (items_past W F out last ls k c 0) (omega arith) (omega (arith, is))
+          (asked_marks (ask_of b) asked (jumps n k) (copy_or (copy_at done b) asked turns) (copied_marks (copy_at done b) asked (jumps n k) turns (looped_marks (is_tested b) n k all part test (omega arith) (omega (arith, is, few)) (past_marks b 0 (inside (ends last c)) (ls ++ n ∷ []) (n + 2) k (omega arith) (omega (arith, is, few)))
+          (λ t. let r = some_label b t in (omega (arith, r), subst (λ h. Marks (jumps h k) part) up (part_marks b (ls ++ n ∷ []) (n + 2) k (omega arith) (omega (arith, is, few))))) (test_bare (n + 2) b 0))))
           (past_marks c 0 last ls k e (omega (arith, is)) few)
       past_marks (Leave k c) done last ls n e is few = bare_then (jumps n e) (jump _ ∷ []) (items_past W F out last ls n c 0) tt (past_marks c 0 last ls n e is few)
       past_marks (Again k c) done last ls n e is few = bare_then (jumps n e) (again ls k (ends last c)) (items_past W F out last ls n c 0) (again_bare ls k (ends last c)) (past_marks c 0 last ls n e is few)

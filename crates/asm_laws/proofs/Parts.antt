@@ -36,14 +36,14 @@ use Rattle.mid_code.specs.declared.placed.Where.TheVariants.{Reg, Slot}
 use Rattle.mid_code.specs.Code.{NodesT, Stop, Do, Call, Choose, Block, Loop, Leave, Again, Return, OpT, ConstO, NullO, MoveO, OneO, TwoO, GlobalO, LocalO, LiteralO, CardO, StepO, ApartO, PtrTestO, LoadO, StoreO, FreshO, EndO, InO, OutO, WaitO, HaltO}
 use Rattle.mid_code.specs.Meaning.{Did, On, Ends, node_weight}
 use Rattle.mid_code.specs.States.{State, spent, op_weight, word_tested, registers_and_slots, acted}
-use Rattle.asm_laws.specs.Operations.{Frame, fetch, hand, word_put, summed, first_place, unturned, copied, copied_address, with_copy, with_sum, with_word, addend, using_it, is_spared, with_known, with_more, in_one, before_it, one_or_more, more_of, op_items}
+use Rattle.asm_laws.specs.Operations.{Frame, fetch, hand, word_put, summed, first_place, unturned, copied, copied_address, with_copy, with_sum, with_word, addend, using_it, is_spared, with_known, with_more, with_next, before_it, one_or_more, more_of, op_items}
 use Rattle.asm_laws.specs.declared.used.Used.{Used}
 use Rattle.asm_laws.specs.declared.used.Used.TheVariants.{Computed, Loaded, Indexed, Offset, Element, Stored, Sent}
 use Rattle.asm_laws.specs.Spare.{beside, operand, in_slots, at_address, at_sum, index, index_behind, indexed, offset_load, offset_sum, offset_step, offset_behind, offset, adds, element_behind, element, or_else, used_by, puts, Stays, Sparing}
 use Rattle.asm_laws.specs.Spare as groups
 use Rattle.asm_laws.specs.Pieces.{register, is_in, turned, other_word, loads_there}
 use Rattle.asm_laws.specs.Placing.{Line, Jumps, Passes}
-use Rattle.asm_laws.specs.inner.Following.{Begin, begin, spare, Came, Stopped, DidSim, TestSim, did_then, front_acts}
+use Rattle.asm_laws.specs.inner.Following.{Begin, begin, spare, Came, Stopped, DidBy, DidSim, TestSim, did_then, front_acts}
 use Rattle.asm_laws.specs.Standing.{Stand}
 use Rattle.asm_laws.specs.Tests.{Tests}
 use Rattle.asm_laws.specs.Addresses.{Addr, Does, Console, readable, writable, word_of, put, having, Room, Good, GoodOp, computed, loaded, saved, Held, Follows, does}
@@ -179,15 +179,19 @@ module _ (S : Setting) (fits : Fits S) where
   join κ s m a registers w p (Ends OutOfBound t) (words.Ends how) e like g al f = absurd g.same
 
   -- an operation whose words come first, and then those of the operations behind it, where the machine has not gone on yet
+  pub passes_by : (κ : Ctx) (R : State Where → machine.State → Type 0) (s : State Where) (m : machine.State) (a b : Addr) (w p : ℕ) (d : Did (State Where)) (go : State Where → Did (State Where)) → DoesAs S κ (spent w s) a d (words.Goes [] s.world.store.answers b) →
+      ((t : State Where) → Holds S κ t b → DidBy (holder S) m (begin (holder S) t) p R (go t)) → DidBy (holder S) m (begin (holder S) s) p R (did_then d go)
+  passes_by κ R s m a b w p (On t) go g f = earlier_did (lang S) (holder S) m (begin (holder S) s) (begin (holder S) t) p R (go t) (sym g.answers) (g.events ∙ append-nil s.world.events) (let n = g.work in omega (arith, n)) (f t g.holds)
+  passes_by κ R s m a b w p (Ends Stray t) go g f = λ n. record { steps = 0; made = []; to = m; left = s.world.store.answers; by = (reaches_here m s.world.store.answers).runs; nested = λ ls. nested_none ls m s.world.store.answers; events = g.0 ∙ sym (append-nil s.world.events); cost = omega (arith, g.1); many = omega arith }
+  passes_by κ R s m a b w p (Ends Halted t) go g f = absurd g
+  passes_by κ R s m a b w p (Ends (Fault k) t) go g f = absurd g
+  passes_by κ R s m a b w p (Ends Starved t) go g f = absurd g
+  passes_by κ R s m a b w p (Ends Deep t) go g f = absurd g
+  passes_by κ R s m a b w p (Ends OutOfBound t) go g f = absurd g
+
   passes : (κ : Ctx) (s : State Where) (m : machine.State) (a b : Addr) (w p : ℕ) (d : Did (State Where)) (go : State Where → Did (State Where)) → DoesAs S κ (spent w s) a d (words.Goes [] s.world.store.answers b) →
       ((t : State Where) → Holds S κ t b → DidSim (holder S) κ m (begin (holder S) t) p (go t)) → DidSim (holder S) κ m (begin (holder S) s) p (did_then d go)
-  passes κ s m a b w p (On t) go g f = earlier_did (lang S) (holder S) m (begin (holder S) s) (begin (holder S) t) p (Mach S κ) (go t) (sym g.answers) (g.events ∙ append-nil s.world.events) (let n = g.work in omega (arith, n)) (f t g.holds)
-  passes κ s m a b w p (Ends Stray t) go g f = λ n. record { steps = 0; made = []; to = m; left = s.world.store.answers; by = (reaches_here m s.world.store.answers).runs; nested = λ ls. nested_none ls m s.world.store.answers; events = g.0 ∙ sym (append-nil s.world.events); cost = omega (arith, g.1); many = omega arith }
-  passes κ s m a b w p (Ends Halted t) go g f = absurd g
-  passes κ s m a b w p (Ends (Fault k) t) go g f = absurd g
-  passes κ s m a b w p (Ends Starved t) go g f = absurd g
-  passes κ s m a b w p (Ends Deep t) go g f = absurd g
-  passes κ s m a b w p (Ends OutOfBound t) go g f = absurd g
+  passes κ s m a b w p d go g f = passes_by κ (Mach S κ) s m a b w p d go g f
 
   -- the last one, whose words the machine makes in such a way
   last_by : (κ : Ctx) (p : ℕ) (o : OpT Where) (s : State Where) (m : machine.State) (a : Addr) (registers : ℕ → ℕ) (e : Does) → AreLike κ registers a → (h : Holds S κ s a) → Fitting S κ.fn o →
@@ -201,7 +205,7 @@ module _ (S : Setting) (fits : Fits S) where
   last_sim κ p o s m a registers like h fit stays f =
       last_by κ p o s m a registers (does C S.address S.whole (Of κ) o s.world.store.answers (having registers a)) like h fit (does_alongside C S.address S.whole (Of κ) (Number κ) a registers like o s.world.store.answers stays) f
 
-  none_more : (c : NodesT Where) (t : State Where) → front_acts (lang S) c zero t ≡ On t
+  pub none_more : (c : NodesT Where) (t : State Where) → front_acts (lang S) c zero t ≡ On t
   none_more Stop t = refl
   none_more (Do o c) t = refl
   none_more (Call r g args c) t = refl
@@ -811,13 +815,12 @@ module _ (S : Setting) (fits : Fits S) where
         go true is = let d = spared_is S κ.fn S.whole (Of κ) o (Do u c) sp is in known_done o u c d.0 d.1 fit
         go false is = λ ff st. word_done o u c fit (old_stays S κ.fn S.whole (Of κ) o u c sp is (fit, ff)) ff st
 
-    pub done : (o : OpT Where) (c : NodesT Where) → Fitting S κ.fn o → Sparing (Number κ) (Do o c) zero → Done o c (in_one S.whole (Of κ) o c)
-    unfolding in_one
+    pub done : (o : OpT Where) (c : NodesT Where) → Fitting S κ.fn o → Sparing (Number κ) (Do o c) zero → Done o c (with_next S.whole (Of κ) o c)
     done o (Do u c) fit sp = more_done o u c fit sp
     done o c fit sp = one_done o c fit (uses_stay S κ.fn (Number κ) o c sp fit)
 
   -- one operation alone
-  op_done : (κ : Ctx) (pc p : ℕ) (s : State Where) (m : machine.State) → m.counter ≡ pc → (h : Mach S κ s m) → (o : OpT Where) → Fitting S κ.fn o → AllOf (Stays (Number κ)) (uses o) → Stand C.words S.address pc (op_items S.whole (Of κ) o) p → DidSim (holder S) κ m (begin (holder S) s) p ((lang S).act o s)
+  pub op_done : (κ : Ctx) (pc p : ℕ) (s : State Where) (m : machine.State) → m.counter ≡ pc → (h : Mach S κ s m) → (o : OpT Where) → Fitting S κ.fn o → AllOf (Stays (Number κ)) (uses o) → Stand C.words S.address pc (op_items S.whole (Of κ) o) p → DidSim (holder S) κ m (begin (holder S) s) p ((lang S).act o s)
   op_done κ pc p s m e h o fit stays st =
       last_sim κ p o s m h.words h.registers h.like (record { place = h.place; at = h.at }) fit stays (op_follows C S.address S.whole (Of κ) (having h.registers h.words) (roomy κ pc p s m e h) o m s.world.store.answers pc p (good_op κ o fit) h.held e st)
 

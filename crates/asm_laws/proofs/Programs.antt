@@ -1,6 +1,6 @@
 -- A program that stands among the words is linked.
 use Rattle.std.proofs.Common.{◌≡◌, ℕ, zero, suc, inl, inr, Bool, true, false, List, [], ◌∷◌, ◌++◌, length, Option, Some, None, refl, sym, ap, ◌∙◌, subst}
-use Rattle.std.specs.Prelude.{is_some, slice_get, option_map, ◌&&◌, not}
+use Rattle.std.specs.Prelude.{is_some, slice_get, option_map, ◌==◌, ◌&&◌, not}
 use Rattle.v32_isa.specs.declared.instruction.One.{One}
 use Rattle.v32_isa.specs.declared.instruction.One.TheVariants.{CIB, NOT, BNOT, ISGN, IABS}
 use Rattle.obj_mem.specs.Runs.{IsCard}
@@ -27,7 +27,7 @@ use Rattle.asm_laws.specs.Calling.{Callable, MadeAt, shapes}
 use Rattle.asm_laws.specs.Linked.{Linked, Plan, setting}
 use Rattle.asm_laws.specs.Live.{is_place, is_among, is_read, is_put, exposed, Lasts}
 use Rattle.asm_laws.proofs.LiveParts.{or_first, or_second}
-use Rattle.asm_laws.proofs.Lasting.{opened, turned, group_lasts, copied_lasts, turns_last, body_last, rest_last}
+use Rattle.asm_laws.proofs.Lasting.{opened, turned, group_lasts, ask_lasts, copied_lasts, turns_last, body_last, rest_last}
 use Rattle.asm_laws.specs.Program.{items_at, ProgramAt, Sound, Program}
 use Rattle.asm_laws.proofs.Opening.{opens}
 use Rattle.asm_laws.proofs.Spared.{halves, all_stay, one_stays}
@@ -141,14 +141,17 @@ module _ (S : Setting) (boot rest : ℕ) (card : Option (List ℕ)) (ok : IsCard
       (at.0, at_of f so cs u (record { begins = pc; ends = at.0; owes = true } ∷ ls) (false ∷ bs) b zero pc at.0 n.0 m.0 d.0 lb at.1, at_of f so cs (λ r. true) ls bs c zero at.0 e n.1 m.1 d.1 lc at.2, opened (S.whole.frames f).lasting c lc)
   at_of f so cs u ls bs (Loop b c) done pc e n m sp la (p, inl h, rest) =
       let d = halves (Number f) (spares b zero) (spares c zero) sp in
-      (p, inl (h.0, h.1, h.2, m.0, d.0), at_of f so cs u ls bs c zero p e n.1 m.1 d.1 (copied_lasts (S.whole.frames f).lasting u b c done la h.0 h.1) rest)
-  at_of f so cs u ls bs (Loop b c) done pc e n m sp la (p, inr (plain, r, passes, body, begins, turns, behind), rest) =
+      (p, inl (h.0, h.1, h.2, m.0), at_of f so cs (λ r. u r && not (r == h.0)) ls bs c zero p e n.1 m.1 d.1 (ask_lasts (S.whole.frames f).lasting u b c done la h.0 h.1) rest)
+  at_of f so cs u ls bs (Loop b c) done pc e n m sp la (p, inr (inl h), rest) =
+      let d = halves (Number f) (spares b zero) (spares c zero) sp in
+      (p, inr (inl (h.0, h.1, h.2, m.0, d.0)), at_of f so cs u ls bs c zero p e n.1 m.1 d.1 (copied_lasts (S.whole.frames f).lasting u b c done la h.0 h.1) rest)
+  at_of f so cs u ls bs (Loop b c) done pc e n m sp la (p, inr (inr (plain, r, passes, body, begins, turns, behind)), rest) =
       let d = halves (Number f) (spares b zero) (spares c zero) sp in
       let lb = body_last (S.whole.frames f).lasting u b c done la plain in
       let lc = rest_last (S.whole.frames f).lasting u b c done la plain in
       let lt = turns_last (S.whole.frames f).lasting u b c done la plain in (
         p,
-        inr (plain, r, passes, at_of f so cs (λ i. true) (record { begins = r; ends = p; owes = true } ∷ ls) (true ∷ bs) b zero r p n.0 m.0 d.0 lb body, opened (S.whole.frames f).lasting b lb, turned (S.whole.frames f).lasting b lt, opened (S.whole.frames f).lasting c lc),
+        inr (inr (plain, r, passes, at_of f so cs (λ i. true) (record { begins = r; ends = p; owes = true } ∷ ls) (true ∷ bs) b zero r p n.0 m.0 d.0 lb body, opened (S.whole.frames f).lasting b lb, turned (S.whole.frames f).lasting b plain.0 lt, opened (S.whole.frames f).lasting c lc)),
         at_of f so cs (λ i. true) ls bs c zero p e n.1 m.1 d.1 lc rest,
       )
   at_of f so cs u ls bs (Leave k c) done pc e n m sp la at = (at.0, (at.1.0, at_of f so cs (λ r. true) ls bs c zero at.1.0 e n.1 m sp la at.1.1))
@@ -196,14 +199,17 @@ module _ (S : Setting) (boot rest : ℕ) (card : Option (List ℕ)) (ok : IsCard
       (at.0, at_quiet f so u (record { begins = pc; ends = at.0; owes = true } ∷ ls) (false ∷ bs) b zero pc at.0 n.0 m.0 q.0 d.0 lb at.1, at_quiet f so (λ r. true) ls bs c zero at.0 e n.1 m.1 q.1 d.1 lc at.2, opened (S.whole.frames f).lasting c lc)
   at_quiet f so u ls bs (Loop b c) done pc e n m q sp la (p, inl h, rest) =
       let d = halves (Number f) (spares b zero) (spares c zero) sp in
-      (p, inl (h.0, h.1, h.2, m.0, d.0), at_quiet f so u ls bs c zero p e n.1 m.1 q.1 d.1 (copied_lasts (S.whole.frames f).lasting u b c done la h.0 h.1) rest)
-  at_quiet f so u ls bs (Loop b c) done pc e n m q sp la (p, inr (plain, r, passes, body, begins, turns, behind), rest) =
+      (p, inl (h.0, h.1, h.2, m.0), at_quiet f so (λ r. u r && not (r == h.0)) ls bs c zero p e n.1 m.1 q.1 d.1 (ask_lasts (S.whole.frames f).lasting u b c done la h.0 h.1) rest)
+  at_quiet f so u ls bs (Loop b c) done pc e n m q sp la (p, inr (inl h), rest) =
+      let d = halves (Number f) (spares b zero) (spares c zero) sp in
+      (p, inr (inl (h.0, h.1, h.2, m.0, d.0)), at_quiet f so u ls bs c zero p e n.1 m.1 q.1 d.1 (copied_lasts (S.whole.frames f).lasting u b c done la h.0 h.1) rest)
+  at_quiet f so u ls bs (Loop b c) done pc e n m q sp la (p, inr (inr (plain, r, passes, body, begins, turns, behind)), rest) =
       let d = halves (Number f) (spares b zero) (spares c zero) sp in
       let lb = body_last (S.whole.frames f).lasting u b c done la plain in
       let lc = rest_last (S.whole.frames f).lasting u b c done la plain in
       let lt = turns_last (S.whole.frames f).lasting u b c done la plain in (
         p,
-        inr (plain, r, passes, at_quiet f so (λ i. true) (record { begins = r; ends = p; owes = true } ∷ ls) (true ∷ bs) b zero r p n.0 m.0 q.0 d.0 lb body, opened (S.whole.frames f).lasting b lb, turned (S.whole.frames f).lasting b lt, opened (S.whole.frames f).lasting c lc),
+        inr (inr (plain, r, passes, at_quiet f so (λ i. true) (record { begins = r; ends = p; owes = true } ∷ ls) (true ∷ bs) b zero r p n.0 m.0 q.0 d.0 lb body, opened (S.whole.frames f).lasting b lb, turned (S.whole.frames f).lasting b plain.0 lt, opened (S.whole.frames f).lasting c lc)),
         at_quiet f so (λ i. true) ls bs c zero p e n.1 m.1 q.1 d.1 lc rest,
       )
   at_quiet f so u ls bs (Leave k c) done pc e n m q sp la at = (at.0, (at.1.0, at_quiet f so (λ r. true) ls bs c zero at.1.0 e n.1 m q sp la at.1.1))

@@ -10,6 +10,7 @@ use Rattle.asm_laws.specs.declared.made.Made.TheVariants.{Both, Known}
 use Rattle.asm_laws.specs.Spare.{operand}
 use Rattle.asm_laws.specs.declared.copying.Copying.{Copying}
 use Rattle.asm_laws.specs.Copies.{lead}
+use Rattle.asm_laws.specs.Asks.{is_unread}
 use Rattle.asm_laws.specs.Operations.{Frame, Whole, word_put, is_spared, in_one, more_of, led_more, group_more, given_first, made_both, made_known, made_with, first_made, made_of}
 use Rattle.asm_laws.specs.inner.Emitted.{is_tested}
 use Rattle.asm_laws.proofs.Leads.{puts_elim, lead_is}
@@ -150,8 +151,12 @@ ops_none (suc k) (Do o c) h = ops_none k c h.1
 ops_none (suc k) _ h = absurd h
 
 pub group_none : (W : Whole) (F : Frame) (o : OpT Where) (c : NodesT Where) → NoResult (group_more W F o c) c
-group_none W F o c = go (lead (Do o c)) refl
+group_none W F o c = whole (is_unread (Do o c)) (go (lead (Do o c)) refl)
   where
+    whole : (b : Bool) → NoResult (led_more W F o c (lead (Do o c))) c → NoResult (cond b 0 (led_more W F o c (lead (Do o c)))) c
+    whole true h = tt
+    whole false h = h
+
     go : (x : Option (ℕ × Copying)) → lead (Do o c) ≡ x → NoResult (led_more W F o c x) c
     go None e = ops_none (more_of (in_one W F o c)) c (one_is W F o c)
     go (Some (k, y)) e = let l = lead_is (Do o c) k y e in puts_elim (λ d j y. NoResult (suc j) d) (λ b d y q. tt) (λ o r d j y p q h. h) (Do o c) k y l.puts

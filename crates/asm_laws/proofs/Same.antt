@@ -11,13 +11,15 @@ use Rattle.mid_code.specs.Code.{OpT, ConstO, NullO, MoveO, OneO, TwoO, GlobalO, 
 use Rattle.mid_code.specs.Invariants.{AreNodes, AllOf}
 use Rattle.asm_laws.specs.Names.{function_label}
 use Rattle.asm_laws.specs.Live.{asked_behind}
-use Rattle.asm_laws.specs.Operations.{unless_left, Frame, Whole, hand, brings, op_items, word_put, with_more, in_one, one_or_more, more_of, call_items, args_items, keeps_some, start_frame, literals_items, word_items, put_items, puts_items, led_items, led_more, group_items, group_more, giving_left, given_first, made_both, made_with, first_made, made_of, made_or, made_more, next_items, next_more}
+use Rattle.asm_laws.specs.Accesses.{accessed}
+use Rattle.asm_laws.specs.Operations.{unless_left, Frame, Whole, hand, brings, op_items, word_put, with_more, with_next, with_access, in_one, one_or_more, more_of, call_items, args_items, keeps_some, start_frame, literals_items, word_items, put_items, puts_items, led_items, led_more, group_items, group_more, giving_left, given_first, made_both, made_with, first_made, made_of, made_or, made_more, next_items, next_more}
 use Rattle.asm_laws.specs.declared.behind.Behind.{Behind}
 use Rattle.asm_laws.specs.declared.behind.Behind.TheVariants.{Other, End, Turn}
 use Rattle.asm_laws.specs.inner.Emitted.{labels, enclosing, jump, choice, alone, left_to, ends, is_stop, enclosed, left_by, items_past, code_items, function_items, functions_items, call_item, exit_items, closing_items, program_items, inside, is_end, again, looped, is_tested, part_items, test_items, jump_when}
 use Rattle.asm_laws.specs.Framing.{frame_made}
 use Rattle.asm_laws.specs.declared.copying.Copying.{Copying}
 use Rattle.asm_laws.specs.Copies.{put_into, lead, move_items, copy_at, copy_or}
+use Rattle.asm_laws.specs.Asks.{ask_of, ask_or, is_unread}
 use Rattle.asm_laws.specs.Live.{live_soon, ahead}
 use Rattle.asm_laws.proofs.Known.{function_there}
 
@@ -53,10 +55,13 @@ put_same W fr (ConstO (Reg r) n) = refl
 put_same W fr (GlobalO (Reg r) k) = refl
 put_same W fr _ = refl
 
+with_next_same : (W : Whole) (fr : ℕ → Frame) (F : Frame) (o : OpT Where) (c : NodesT Where) → with_next (framed W fr) F o c ≡ with_next W F o c
+with_next_same W fr F o (Do p c) = ap (λ s. with_more W.globals F s p c) (put_same W fr o)
+with_next_same W fr F o _ = refl
+
 in_one_same : (W : Whole) (fr : ℕ → Frame) (F : Frame) (o : OpT Where) (c : NodesT Where) → in_one (framed W fr) F o c ≡ in_one W F o c
 unfolding in_one
-in_one_same W fr F o (Do p c) = ap (λ s. with_more W.globals F s p c) (put_same W fr o)
-in_one_same W fr F o _ = refl
+in_one_same W fr F o c = ap (λ x. with_access F (accessed F.lasting F.registers o c) x) (with_next_same W fr F o c)
 
 one_same : (W : Whole) (fr : ℕ → Frame) (F : Frame) (o : OpT Where) (r : Option (ℕ × Option (Instr Imm) × Instr Imm)) → one_or_more (framed W fr) F o r ≡ one_or_more W F o r
 one_same W fr F o None = op_same W fr F o
@@ -85,14 +90,14 @@ puts_same W fr F y J (Again j c) k = refl
 puts_same W fr F y J (Return p c) k = refl
 
 group_same : (W : Whole) (fr : ℕ → Frame) (F : Frame) (o : OpT Where) (c : NodesT Where) → group_items (framed W fr) F o c ≡ group_items W F o c
-group_same W fr F o c = go (lead (Do o c))
+group_same W fr F o c = ap (λ xs. cond (is_unread (Do o c)) [] xs) (go (lead (Do o c)))
   where
     go : (x : Option (ℕ × Copying)) → led_items (framed W fr) F o c x ≡ led_items W F o c x
     go None = ap (one_or_more (framed W fr) F o) (in_one_same W fr F o c) ∙ one_same W fr F o (in_one W F o c)
     go (Some (k, y)) = ap (λ xs. xs ++ move_items y (Do o c)) (puts_same W fr F y (asked_behind F.lasting c y.one) (Do o c) k)
 
 more_same : (W : Whole) (fr : ℕ → Frame) (F : Frame) (o : OpT Where) (c : NodesT Where) → group_more (framed W fr) F o c ≡ group_more W F o c
-more_same W fr F o c = go (lead (Do o c))
+more_same W fr F o c = ap (λ k. cond (is_unread (Do o c)) 0 k) (go (lead (Do o c)))
   where
     go : (x : Option (ℕ × Copying)) → led_more (framed W fr) F o c x ≡ led_more W F o c x
     go None = ap more_of (in_one_same W fr F o c)
@@ -150,7 +155,7 @@ module _ (x : CodeT Where) (W : Whole) (fr : ℕ → Frame) (same : (g : ℕ) �
         let part = part_same m F out b (true ∷ bs) (ls ++ n ∷ []) (n + 2) ok.0 in
         let test = test_same m F out (n + 2) b 0 (true ∷ bs) ok.0 in
         let q = past_same m F out c 0 last bs ls (n + (2 + labels b)) ok.1 in
-        λ i. copy_or (copy_at done b) (live_soon ahead F.lasting c) (looped (is_tested b) n (p i) (part i) (test i)) ++ q i
+        λ i. ask_or (ask_of b) (live_soon ahead F.lasting c) (copy_or (copy_at done b) (live_soon ahead F.lasting c) (looped (is_tested b) n (p i) (part i) (test i))) ++ q i
     past_same m F out (Leave k c) done last bs ls n ok = ap (λ y. jump (add (enclosing ls k) 1) ∷ y) (past_same m F out c 0 last bs ls n ok.1)
     past_same m F out (Again k c) done last bs ls n ok = ap (λ y. again ls k (ends last c) ++ y) (past_same m F out c 0 last bs ls n ok.1)
     past_same m F out (Return p c) done last bs ls n ok = ap (λ y. giving_left F p done ++ (left_by F out (is_end (ends last c)) ++ y)) (past_same m F out c 0 last bs ls n ok)

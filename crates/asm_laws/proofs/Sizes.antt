@@ -39,6 +39,7 @@ use Rattle.asm_laws.proofs.Ordering.{in_order_few}
 use Rattle.asm_laws.specs.declared.copying.Copying.{Copying}
 use Rattle.asm_laws.specs.declared.made.Made.{Made}
 use Rattle.asm_laws.specs.Copies.{lead, copy_of, copy_at, put_into, goes_to, is_put, source, source_put, move_item, move_items, block_of, last_item, when, back_items, copy_items, copy_or}
+use Rattle.asm_laws.specs.Asks.{ask_of, ask_or, is_unread}
 use Rattle.asm_laws.specs.Live.{live_soon, ahead}
 use Rattle.asm_laws.proofs.Leads.{copy_turn, fill_turn, copy_is, lead_is, puts_before, puts_elim, some_put, put_elim}
 use Rattle.asm_laws.proofs.InOne.{TakesWord, one_or_more_is, made_or_is}
@@ -189,7 +190,7 @@ taking_size n _ h = absurd h
 
 one_size : (W : Whole) (F : Frame) (o : OpT Where) (c : NodesT Where) → size (one_or_more W F o (in_one W F o c)) ≤ op_weight o
 one_size W F o c =
-    one_or_more_is W F (λ xs. size xs ≤ op_weight o) (λ v. op_weight o ≡ 8) o c (λ t n e. (ap op_weight e, ap op_weight e, λ x y. ap op_weight e)) (λ t k e. (ap op_weight e, ap op_weight e, λ x y. ap op_weight e)) (op_size W F o)
+    one_or_more_is W F (λ xs. size xs ≤ op_weight o) (λ v. op_weight o ≡ 8) o c (λ t n e. (ap op_weight e, ap op_weight e, λ x y. ap op_weight e)) (λ t k e. (ap op_weight e, ap op_weight e, λ x y. ap op_weight e)) (λ t k e x y. ap op_weight e) (op_size W F o)
     (λ i h. let t = taking_size (op_weight o) i h in let z = one_item (item.Op i) 2 t.1 in omega (arith, z, t.0)) (
       λ p r i lt h. (let t = taking_size (op_weight o) i h in let z = two_items (fetches F p r) (item.Op i) 2 2 (fetch_size F p r) t.1 in omega (arith, z, t.0)),
       λ r q i lr lq h. (let t = taking_size (op_weight o) i h in let z = two_items (item.Op (instr.Two IADD r (src.Reg q))) (item.Op i) 2 2 (omega arith) t.1 in omega (arith, z, t.0)),
@@ -232,8 +233,13 @@ move_size y c = go (is_put y.to false c) (source_put y.from false c) (is_put y.c
         omega (arith, s, t, one a 13 y.to, one b 12 (source y.from y), one d 11 y.count)
 
 group_size : (W : Whole) (F : Frame) (o : OpT Where) (c : NodesT Where) → size (group_items W F o c) ≤ op_weight o + front_weight c (group_more W F o c)
-group_size W F o c = go (lead (Do o c)) refl
+group_size W F o c = whole (is_unread (Do o c)) (go (lead (Do o c)) refl)
   where
+    whole : (b : Bool) → size (led_items W F o c (lead (Do o c))) ≤ op_weight o + front_weight c (led_more W F o c (lead (Do o c))) →
+        size (cond b [] (led_items W F o c (lead (Do o c)))) ≤ op_weight o + front_weight c (cond b 0 (led_more W F o c (lead (Do o c))))
+    whole true h = omega (arith, total_none)
+    whole false h = h
+
     go : (x : Option (ℕ × Copying)) → lead (Do o c) ≡ x → size (led_items W F o c x) ≤ op_weight o + front_weight c (led_more W F o c x)
     go None e = let s = one_size W F o c in omega (arith, s)
     go (Some (k, y)) e =
@@ -407,6 +413,10 @@ rotated_size n w part test le =
     let j = jump_size n in
     omega (arith, x1, x2, x3, x4, x5, x6, j, le)
 
+ask_size : (y : Option ℕ) (b : NodesT Where) (J : ℕ → Bool) (xs : List AsmItem) → size xs ≤ nodes_weight b + 8 → size (ask_or y J xs) ≤ nodes_weight b + 8
+ask_size None b J xs le = le
+ask_size (Some f) b J xs le = let z = asked_size (J f) (item.Op (instr.Mov (RegImm (register f) (Left 0)))) 2 (omega arith) in omega (arith, z)
+
 looped_size : (t : Bool) (n w : ℕ) (all part test : List AsmItem) → size all ≤ w → size part + size test ≤ w → size (looped t n all part test) ≤ w + 8
 looped_size true n w all part test la le = rotated_size n w part test le
 looped_size false n w all part test la le = enclosed_size n w all la
@@ -464,9 +474,10 @@ module _ (x : CodeT Where) (W : Whole) (counts : Counts x W) (m : ℕ) (F : Fram
         let part = part_items W F out (ls ++ n ∷ []) (n + 2) b in
         let test = test_items W F out (n + 2) b 0 in
         let asked = live_soon ahead F.lasting c in
-        let s = total_append (copy_or (copy_at done b) asked (looped (is_tested b) n all part test)) (items_past W F out last ls (n + (2 + labels b)) c 0) in
+        let turns = looped (is_tested b) n all part test in
+        let s = total_append (ask_or (ask_of b) asked (copy_or (copy_at done b) asked turns)) (items_past W F out last ls (n + (2 + labels b)) c 0) in
         let l = looped_size (is_tested b) n (nodes_weight b) all part test (whole _ _ _ (past_size b 0 (inside (ends last c)) (true ∷ bs) (ls ++ n ∷ []) (n + 2) ok.0)) (whole _ _ _ (parts_size b 0 (true ∷ bs) (ls ++ n ∷ []) (n + 2) (n + 2) ok.0)) in
-        let h = copied_size done b asked (looped (is_tested b) n all part test) l in
+        let h = ask_size (ask_of b) b asked (copy_or (copy_at done b) asked turns) (copied_size done b asked turns l) in
         omega (arith, s, h, past_size c 0 last bs ls (n + (2 + labels b)) ok.1)
     past_size (Leave k c) done last bs ls n ok = let j = jump_size (add (enclosing ls k) 1) in let s = total_more (jump (add (enclosing ls k) 1)) (items_past W F out last ls n c 0) in omega (arith, s, j, past_size c 0 last bs ls n ok.1)
     past_size (Again k c) done last bs ls n ok = let s = total_append (again ls k (ends last c)) (items_past W F out last ls n c 0) in omega (arith, s, again_size ls k (ends last c), past_size c 0 last bs ls n ok.1)

@@ -1,7 +1,8 @@
 -- What bodies that spare register 8 read.
-use Rattle.std.proofs.Common.{◌≡◌, ℕ, zero, suc, ◌⊎◌, ◌==◌, inl, inr, Bool, true, false, cond, List, [], ◌∷◌, Option, Some, None, refl, sym, ap, ◌∙◌, arith}
-use Rattle.std.specs.Prelude.{◌&&◌, not}
+use Rattle.std.proofs.Common.{◌≡◌, ℕ, zero, suc, ◌⊎◌, ◌==◌, inl, inr, Bool, true, false, cond, List, [], ◌∷◌, Option, Some, None, refl, sym, ap, ◌∙◌, subst, arith}
+use Rattle.std.specs.Prelude.{◌&&◌, not, nat_lt}
 use Rattle.std.proofs.lemmas.Bool.{eqb-false}
+use Rattle.std.proofs.lemmas.Bool.Decides.{nat_tests}
 use Rattle.asm_items.specs.Items.{Imm}
 use Rattle.v32_isa.specs.declared.instruction.Instr.{Instr}
 use Rattle.v32_isa.specs.declared.instruction.Two.TheVariants.{IADD}
@@ -12,10 +13,15 @@ use Rattle.mid_code.specs.Invariants.{AllOf}
 use Rattle.asm_laws.specs.declared.used.Used.{Used}
 use Rattle.asm_laws.specs.Pieces.{register, is_in, turned, loads_there}
 use Rattle.asm_laws.specs.Spare.{used_by, puts, count, group, are_others, spares, held_registers, Stays, Sparing}
-use Rattle.asm_laws.specs.Operations.{Frame, Whole, word_put, summed, first_place, unturned, copied, copied_address, with_copy, with_sum, with_word, is_spared, with_known, in_one, more_of}
+use Rattle.asm_laws.specs.Operations.{Frame, Whole, word_put, summed, first_place, unturned, copied, copied_address, with_copy, with_sum, with_word, is_spared, with_known, with_next, with_access, in_one, more_of}
+use Rattle.asm_laws.specs.declared.access.Address.{Address}
+use Rattle.asm_laws.specs.declared.access.Transfer.{Transfer}
+use Rattle.asm_laws.specs.declared.access.Transfer.TheVariants.{Load, Store}
+use Rattle.asm_laws.specs.Accesses.{accessed}
 use Rattle.asm_laws.specs.Holds.{Setting, Named}
 use Rattle.asm_laws.specs.Acting.{Fitting, FrontFits}
 use Rattle.asm_laws.proofs.Lists.{below_or_not}
+use Rattle.asm_laws.proofs.AccessForms.{Transfers, accessed_case}
 
 pub both : (x y : Bool) → x && y ≡ true → (x ≡ true) × (y ≡ true)
 both true true e = (refl, refl)
@@ -238,11 +244,10 @@ module _ (S : Setting) (f : ℕ) (W : Whole) (F : Frame) where
   known_more (Some (r, w)) None e = refl
   known_more (Some (r, w)) (Some (k, u)) e = refl
 
-  -- what comes behind an operation, and those that are done with it
-  pub spares_on : (o : OpT Where) (c : NodesT Where) → Sparing F.registers (Do o c) zero → Sparing F.registers c (more_of (in_one W F o c))
-  unfolding in_one
-  spares_on o c (inl e) = inl e
-  spares_on o (Do u c) (inr e) = inr (e.0, go (is_spared F (word_put W o)) refl)
+  -- what comes behind an operation, and those that are done with it where no access is
+  next_on : (o : OpT Where) (c : NodesT Where) → Sparing F.registers (Do o c) zero → Sparing F.registers c (more_of (with_next W F o c))
+  next_on o c (inl e) = inl e
+  next_on o (Do u c) (inr e) = inr (e.0, go (is_spared F (word_put W o)) refl)
     where
       here : spares (Do u c) (group o (Do u c)) ≡ true
       here = (both (are_others (uses o)) (spares (Do u c) (group o (Do u c))) e.1).1
@@ -254,14 +259,47 @@ module _ (S : Setting) (f : ℕ) (W : Whole) (F : Frame) where
       go false is =
           let put : puts o ≡ false = sym (spared_puts F W o e.0) ∙ is in
           past S f (Do u c) (more_of (with_word F (word_put W o) u c)) (behind S f o (Do u c) put e.1).1 (word_puts F (word_put W o) u c)
-  spares_on o Stop (inr e) = inr (e.0, refl)
-  spares_on o (Call t g args c) (inr e) = inr (e.0, (both (are_others (uses o)) _ e.1).1)
-  spares_on o (Choose w x y c) (inr e) = inr (e.0, (both (are_others (uses o)) _ e.1).1)
-  spares_on o (Block b c) (inr e) = inr (e.0, (both (are_others (uses o)) _ e.1).1)
-  spares_on o (Loop b c) (inr e) = inr (e.0, (both (are_others (uses o)) _ e.1).1)
-  spares_on o (Leave j c) (inr e) = inr (e.0, (both (are_others (uses o)) _ e.1).1)
-  spares_on o (Again j c) (inr e) = inr (e.0, (both (are_others (uses o)) _ e.1).1)
-  spares_on o (Return w c) (inr e) = inr (e.0, (both (are_others (uses o)) _ e.1).1)
+  next_on o Stop (inr e) = inr (e.0, refl)
+  next_on o (Call t g args c) (inr e) = inr (e.0, (both (are_others (uses o)) _ e.1).1)
+  next_on o (Choose w x y c) (inr e) = inr (e.0, (both (are_others (uses o)) _ e.1).1)
+  next_on o (Block b c) (inr e) = inr (e.0, (both (are_others (uses o)) _ e.1).1)
+  next_on o (Loop b c) (inr e) = inr (e.0, (both (are_others (uses o)) _ e.1).1)
+  next_on o (Leave j c) (inr e) = inr (e.0, (both (are_others (uses o)) _ e.1).1)
+  next_on o (Again j c) (inr e) = inr (e.0, (both (are_others (uses o)) _ e.1).1)
+  next_on o (Return w c) (inr e) = inr (e.0, (both (are_others (uses o)) _ e.1).1)
+
+  -- an access at an address that nothing else asks for
+  abbrev AccessPuts : OpT Where → NodesT Where → Option (ℕ × Address × Transfer) → Type 0
+  AccessPuts o c None = Unit {0}
+  AccessPuts o c (Some (k, y, x)) = NoPuts (Do o c) (suc k)
+
+  access_puts : F.registers ≡ 8 → (o : OpT Where) (c : NodesT Where) → AccessPuts o c (accessed F.lasting F.registers o c)
+  access_puts e = accessed_case F.lasting F.registers AccessPuts (λ o c. tt)
+      (λ t l last d x i told. (refl, (last_puts t last x i, none_put d)))
+      (λ r n u p last d x lt apart i told. (low r lt, (refl, (last_puts u last x i, none_put d))))
+      (λ t l r n u last d x lt apart i told. (refl, (low r lt, (refl, (last_puts u last x i, none_put d)))))
+    where
+      last_puts : (u : ℕ) (last : OpT Where) (x : Transfer) → Transfers u last x → puts last ≡ false
+      last_puts u last (Load v) i = ap puts i
+      last_puts u last (Store a) i = ap puts i
+
+      low : (r : ℕ) → nat_lt r F.registers ≡ true → is_in (Reg r) 8 ≡ false
+      low r lt = grind (arith, nat_tests, lt, e)
+
+  -- the words that its operations read
+  pub access_stays : (o : OpT Where) (c : NodesT Where) (k : ℕ) (y : Address) (x : Transfer) → accessed F.lasting F.registers o c ≡ Some (k, y, x) → Sparing F.registers (Do o c) zero → FrontFits S f (Do o c) (suc k) → FrontStays F.registers (Do o c) (suc k)
+  access_stays o c k y x q (inl e) fit = nine_front S f F.registers (Do o c) (suc k) e fit
+  access_stays o c k y x q (inr e) fit = eight_front S f F.registers (Do o c) (suc k) e.0 e.1 (subst (AccessPuts o c) q (access_puts e.0 o c)) fit
+
+  access_on : (o : OpT Where) (c : NodesT Where) (x : Option (ℕ × Address × Transfer)) → accessed F.lasting F.registers o c ≡ x → Sparing F.registers (Do o c) zero → Sparing F.registers c (more_of (with_access F x (with_next W F o c)))
+  access_on o c None q sp = next_on o c sp
+  access_on o c (Some (k, y, x)) q (inl e) = inl e
+  access_on o c (Some (k, y, x)) q (inr e) = let none = subst (AccessPuts o c) q (access_puts e.0 o c) in inr (e.0, past S f c k (behind S f o c none.0 e.1).1 none.1)
+
+  -- what comes behind an operation, and those that are done with it
+  pub spares_on : (o : OpT Where) (c : NodesT Where) → Sparing F.registers (Do o c) zero → Sparing F.registers c (more_of (in_one W F o c))
+  unfolding in_one
+  spares_on o c sp = access_on o c (accessed F.lasting F.registers o c) refl sp
 
   -- a known word is put into register 8
   pub spared_is : (o : OpT Where) (c : NodesT Where) → Sparing F.registers (Do o c) zero → is_spared F (word_put W o) ≡ true → (F.registers ≡ 8) × (puts o ≡ true)

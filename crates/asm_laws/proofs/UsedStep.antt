@@ -60,7 +60,7 @@ module _ (C : Console) (address : List ℕ → ℕ) (F : Frame) (a : Addr) (room
       go true k = (pc, refl, k)
       go false k = (k.0, (k.0, k.1, refl), k.2)
 
-  brought_parts : (p : Where) (r : ℕ) (rest : List AsmItem) (pc e : ℕ) → Here pc (before_it (brought F p r) ++ rest) e → (q : ℕ) × Here pc (brings F p r) q × Here q rest e
+  pub brought_parts : (p : Where) (r : ℕ) (rest : List AsmItem) (pc e : ℕ) → Here pc (before_it (brought F p r) ++ rest) e → (q : ℕ) × Here pc (brings F p r) q × Here q rest e
   brought_parts (Reg q) r rest pc e k = (pc, refl, k)
   brought_parts (Slot j) r rest pc e k = (k.0, (k.0, k.1, refl), k.2)
 
@@ -167,7 +167,7 @@ module _ (C : Console) (address : List ℕ → ℕ) (F : Frame) (a : Addr) (room
 
   -- ---- a load
 
-  read_last : (t v n : ℕ) (i : Instr ℕ) (u : State) (xs : List ℕ) (next p : ℕ) → t < 9 → Held C a u → effect_of u ≡ act i next u → turn u ≡ Other → next ≡ p → ((y : ℕ) → word_at u v ≡ Some y → act i next u ≡ EndsIn stepped.Went (took C next (register t) y u)) →
+  pub read_last : (t v n : ℕ) (i : Instr ℕ) (u : State) (xs : List ℕ) (next p : ℕ) → t < 9 → Held C a u → effect_of u ≡ act i next u → turn u ≡ Other → next ≡ p → ((y : ℕ) → word_at u v ≡ Some y → act i next u ≡ EndsIn stepped.Went (took C next (register t) y u)) →
       (word_at u v ≡ None → act i next u ≡ EndsIn (stepped.Fault 0) u) → 1 ≤ n → Follows C n u xs p a (loaded (readable C v) F (Reg t) (a.memory v) xs a)
   read_last t v n i u xs next p lt hu eff o same goes fails le = go (readable C v) refl
     where
@@ -192,11 +192,11 @@ module _ (C : Console) (address : List ℕ → ℕ) (F : Frame) (a : Addr) (room
   unfolding act
   at_fails m w next s e = rw e refl
 
-  off_goes : (m r w x y next : ℕ) (s : State) → register_of s r ≡ x → word_at s (add x w) ≡ Some y → act (instr.Mov (RegAtOff m r w)) next s ≡ EndsIn stepped.Went (took C next m y s)
+  pub off_goes : (m r w x y next : ℕ) (s : State) → register_of s r ≡ x → word_at s (add x w) ≡ Some y → act (instr.Mov (RegAtOff m r w)) next s ≡ EndsIn stepped.Went (took C next m y s)
   unfolding act
   off_goes m r w x y next s is e = rw (is, e) refl
 
-  off_fails : (m r w x next : ℕ) (s : State) → register_of s r ≡ x → word_at s (add x w) ≡ None → act (instr.Mov (RegAtOff m r w)) next s ≡ EndsIn (stepped.Fault 0) s
+  pub off_fails : (m r w x next : ℕ) (s : State) → register_of s r ≡ x → word_at s (add x w) ≡ None → act (instr.Mov (RegAtOff m r w)) next s ≡ EndsIn (stepped.Fault 0) s
   unfolding act
   off_fails m r w x next s is e = rw (is, e) refl
 
@@ -261,7 +261,7 @@ module _ (C : Console) (address : List ℕ → ℕ) (F : Frame) (a : Addr) (room
 
   -- ---- a store
 
-  write_last : (v y n : ℕ) (i : Instr ℕ) (u : State) (xs : List ℕ) (next p : ℕ) → Held C a u → effect_of u ≡ act i next u → turn u ≡ Other → next ≡ p → (is_writable_at u v ≡ true → act i next u ≡ EndsIn stepped.Went (going_to next (stored u v y))) →
+  pub write_last : (v y n : ℕ) (i : Instr ℕ) (u : State) (xs : List ℕ) (next p : ℕ) → Held C a u → effect_of u ≡ act i next u → turn u ≡ Other → next ≡ p → (is_writable_at u v ≡ true → act i next u ≡ EndsIn stepped.Went (going_to next (stored u v y))) →
       (is_writable_at u v ≡ false → act i next u ≡ EndsIn (stepped.Fault 1) u) → 1 ≤ n → Follows C n u xs p a (saved (writable C v) v y xs a)
   write_last v y n i u xs next p hu eff o same goes fails le = go (writable C v) refl
     where
@@ -284,11 +284,11 @@ module _ (C : Console) (address : List ℕ → ℕ) (F : Frame) (a : Addr) (room
   unfolding act
   to_fails m w next s apart = rw apart refl
 
-  beyond_goes : (m r w x y next : ℕ) (s : State) → register_of s r ≡ x → register_of s m ≡ y → is_writable_at s (add x w) ≡ true → act (instr.Mov (AtOffReg r w m)) next s ≡ EndsIn stepped.Went (going_to next (stored s (add x w) y))
+  pub beyond_goes : (m r w x y next : ℕ) (s : State) → register_of s r ≡ x → register_of s m ≡ y → is_writable_at s (add x w) ≡ true → act (instr.Mov (AtOffReg r w m)) next s ≡ EndsIn stepped.Went (going_to next (stored s (add x w) y))
   unfolding act
   beyond_goes m r w x y next s at is ok = rw (is, at, ok) refl
 
-  beyond_fails : (m r w x next : ℕ) (s : State) → register_of s r ≡ x → is_writable_at s (add x w) ≡ false → act (instr.Mov (AtOffReg r w m)) next s ≡ EndsIn (stepped.Fault 1) s
+  pub beyond_fails : (m r w x next : ℕ) (s : State) → register_of s r ≡ x → is_writable_at s (add x w) ≡ false → act (instr.Mov (AtOffReg r w m)) next s ≡ EndsIn (stepped.Fault 1) s
   unfolding act
   beyond_fails m r w x next s at apart = rw (at, apart) refl
 

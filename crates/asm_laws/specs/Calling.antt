@@ -18,6 +18,7 @@ use Rattle.asm_laws.specs.Operations.{group_items, group_more, made_of, made_ite
 use Rattle.asm_laws.specs.Standing.{Stand}
 use Rattle.asm_laws.specs.declared.copying.Copying.{Copying}
 use Rattle.asm_laws.specs.Copies.{copy_at, copy_items, is_moved, is_left, source, is_count}
+use Rattle.asm_laws.specs.Asks.{ask_of, asked_items}
 use Rattle.asm_laws.specs.Live.{lasts, live, live_soon, ahead}
 use Rattle.asm_laws.specs.Tests.{Tests}
 use Rattle.asm_laws.specs.Addresses.{Addr, having, Held}
@@ -188,7 +189,9 @@ shapes S = record {
   copy = λ f pc b c k p. (y : Copying) × (copy_at k b ≡ Some y)
       × Stand S.console.words S.address pc (copy_items y (live_soon ahead (S.whole.frames f).lasting c)) p × Names (Named S f) b
       × Sparing (S.whole.frames f).registers b 0;
-  plain = λ b k. copy_at k b ≡ None;
+  ask = λ f pc b c p. (flag : ℕ) × (ask_of b ≡ Some flag)
+      × Stand S.console.words S.address pc (asked_items flag (live_soon ahead (S.whole.frames f).lasting c flag)) p × Names (Named S f) b;
+  plain = λ b k. (ask_of b ≡ None) × (copy_at k b ≡ None);
   opens = λ f c. (r : ℕ) → r < 9 → live (S.whole.frames f).lasting c r ≡ true → lasts (S.whole.frames f).lasting r ≡ true;
 }
 

@@ -3,7 +3,9 @@ pub mod Moves
 pub mod Pieces
 pub mod Spare
 pub mod Copies
+pub mod Asks
 pub mod Live
+pub mod Accesses
 pub mod Operations
 pub mod Framing
 pub mod Placing

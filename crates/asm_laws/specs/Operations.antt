@@ -29,7 +29,14 @@ use Rattle.asm_laws.specs.declared.made.Made.TheVariants.{Both, Known}
 use Rattle.asm_laws.specs.Spare.{operand, used_by}
 use Rattle.asm_laws.specs.declared.copying.Copying.{Copying}
 use Rattle.asm_laws.specs.Copies.{lead, put_into, is_left, goes_to, move_items}
+use Rattle.asm_laws.specs.Asks.{is_unread}
 use Rattle.asm_laws.specs.Live.{all_last, asked_behind}
+use Rattle.asm_laws.specs.declared.access.Base.{Base}
+use Rattle.asm_laws.specs.declared.access.Base.TheVariants.{Local, Place}
+use Rattle.asm_laws.specs.declared.access.Address.{Address}
+use Rattle.asm_laws.specs.declared.access.Transfer.{Transfer}
+use Rattle.asm_laws.specs.declared.access.Transfer.TheVariants.{Load, Store}
+use Rattle.asm_laws.specs.Accesses.{accessed}
 
 -- the frame of a function: its size, and the offsets of its slots and of its locals' first words. Offset 0 is the
 -- frame's lowest word. A slot that is not listed has its number as its offset. So many of its words are on the stack: all, but none of the start's
@@ -317,9 +324,27 @@ with_known gs F _ _ = None
 abbrev pub with_more : (globals : List ℕ) → Frame → Option (ℕ × ℕ) → OpT Where → NodesT Where → Option (ℕ × Option (Instr Imm) × Instr Imm)
 with_more gs F put p c = cond (is_spared F put) (with_known gs F put (used_by (Do p c))) (with_word F put p c)
 
+abbrev pub with_next : Whole → Frame → OpT Where → NodesT Where → Option (ℕ × Option (Instr Imm) × Instr Imm)
+with_next W F o (Do p c) = with_more W.globals F (word_put W o) p c
+with_next W F o _ = None
+
+-- ---- accesses at addresses that nothing else asks for
+
+-- the access at such an address, behind an instruction that brings a word out of a slot where one stands there
+abbrev pub access_item : Frame → Base → (offset : ℕ) → Transfer → Option (Instr Imm) × Instr Imm
+access_item F (Local k) n (Load v) = (None, instr.Mov (RegAtOff (register v) 15 (Left (add (local_word F k) n))))
+access_item F (Local k) n (Store a) = (brought F a 10, instr.Mov (AtOffReg 15 (Left (add (local_word F k) n)) (hand a 10)))
+access_item F (Place p) n (Load v) = (brought F p 9, instr.Mov (RegAtOff (register v) (hand p 9) (Left n)))
+access_item F (Place p) n (Store a) = (either (brought F p 9) (brought F a 10), instr.Mov (AtOffReg (hand p 9) (Left n) (hand a 10)))
+
+abbrev pub with_access : Frame → Option (ℕ × Address × Transfer) → (other : Option (ℕ × Option (Instr Imm) × Instr Imm))
+    → Option (ℕ × Option (Instr Imm) × Instr Imm)
+with_access F None other = other
+with_access F (Some (k, y, x)) other = Some (k, (access_item F y.base y.offset x).0, (access_item F y.base y.offset x).1)
+
+-- what does an operation together with some of those behind it, where there is something
 unfoldable pub in_one : Whole → Frame → OpT Where → NodesT Where → Option (ℕ × Option (Instr Imm) × Instr Imm)
-in_one W F o (Do p c) = with_more W.globals F (word_put W o) p c
-in_one W F o _ = None
+in_one W F o c = with_access F (accessed F.lasting F.registers o c) (with_next W F o c)
 
 -- the items of an operation, and of those that are done together with it; how many these are
 abbrev pub before_it : Option (Instr Imm) → List AsmItem
@@ -362,11 +387,12 @@ abbrev pub led_more : Whole → Frame → OpT Where → NodesT Where → Option 
 led_more W F o c None = more_of (in_one W F o c)
 led_more W F o c (Some (k, y)) = k
 
+-- no items where the word that it puts somewhere is not asked for
 abbrev pub group_items : Whole → Frame → OpT Where → NodesT Where → List AsmItem
-group_items W F o c = led_items W F o c (lead (Do o c))
+group_items W F o c = cond (is_unread (Do o c)) [] (led_items W F o c (lead (Do o c)))
 
 abbrev pub group_more : Whole → Frame → OpT Where → NodesT Where → ℕ
-group_more W F o c = led_more W F o c (lead (Do o c))
+group_more W F o c = cond (is_unread (Do o c)) 0 (led_more W F o c (lead (Do o c)))
 
 -- ---- results
 

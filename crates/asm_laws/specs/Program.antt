@@ -18,6 +18,7 @@ use Rattle.asm_laws.specs.Operations.{group_items, group_more, made_of, made_ite
 use Rattle.asm_laws.specs.Standing.{Stand}
 use Rattle.asm_laws.specs.declared.copying.Copying.{Copying}
 use Rattle.asm_laws.specs.Copies.{copy_at, copy_items}
+use Rattle.asm_laws.specs.Asks.{ask_of, asked_items}
 use Rattle.asm_laws.specs.Live.{live_soon, ahead, Lasts}
 use Rattle.asm_laws.specs.Spare.{Sparing}
 use Rattle.asm_laws.specs.Tests.{Tests}
@@ -41,7 +42,9 @@ items_at S = record {
       × (out : ℕ) × Passes S.console.words q out × ExitAt S f out;
   copy = λ f pc b c k p. (y : Copying) × (copy_at k b ≡ Some y)
       × Stand S.console.words S.address pc (copy_items y (live_soon ahead (S.whole.frames f).lasting c)) p;
-  plain = λ b k. copy_at k b ≡ None;
+  ask = λ f pc b c p. (flag : ℕ) × (ask_of b ≡ Some flag)
+      × Stand S.console.words S.address pc (asked_items flag (live_soon ahead (S.whole.frames f).lasting c flag)) p;
+  plain = λ b k. (ask_of b ≡ None) × (copy_at k b ≡ None);
   opens = λ f c. Unit {0};
 }
 

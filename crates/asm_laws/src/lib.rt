@@ -1,12 +1,14 @@
 //! What the items of placed code do where they stand among the words of a program.
 #![tactic(auto)]
 
+mod access;
 mod behind;
 mod copying;
 mod laws;
 mod made;
 mod used;
 
+pub use access::{Address, Base, Transfer};
 pub use behind::Behind;
 pub use copying::Copying;
 pub use laws::{

@@ -10,12 +10,16 @@ use Rattle.mid_code.specs.declared.node.Op.{Op}
 use Rattle.mid_code.specs.declared.node.Op.TheVariants as op
 use Rattle.mid_code.specs.Code.{NodesT, OpT, Do, Call, Loop, Return, Stop}
 use Rattle.mid_code.specs.Functions.{op_before, NodeT, DoN, ChooseN, BlockN, LoopN, LeaveN, AgainN, ReturnN, ListT, NoN, MoreN, before, joined}
-use Rattle.asm_laws.specs.Operations.{Frame, Whole, op_items, word_put, with_word, is_spared, with_known, in_one, before_it, call_items}
+use Rattle.asm_laws.specs.Operations.{Frame, Whole, op_items, word_put, with_word, is_spared, with_known, with_access, in_one, before_it, call_items}
 use Rattle.asm_laws.specs.declared.made.Made.{Made}
 use Rattle.asm_laws.specs.Operations.{hand, brings, word_items, unless_left, puts_items, giving, given_first, made_both, made_with, first_made, made_of, made_or}
 use Rattle.asm_laws.specs.Spare.{used_by}
+use Rattle.asm_laws.specs.declared.access.Address.{Address}
+use Rattle.asm_laws.specs.declared.access.Transfer.{Transfer}
+use Rattle.asm_laws.specs.Accesses.{accessed}
 use Rattle.asm_laws.specs.declared.copying.Copying.{Copying}
 use Rattle.asm_laws.specs.Copies.{put_into, reads_moved, puts_ahead, last_put, is_count, is_one, lead, move_items, copy_at, copy_or}
+use Rattle.asm_laws.specs.Asks.{ask_of, ask_or, is_unread}
 use Rattle.asm_laws.specs.Live.{live_soon, ahead}
 use Rattle.asm_laws.specs.declared.behind.Behind.{Behind}
 use Rattle.asm_laws.specs.declared.behind.Behind.TheVariants.{Other, End, Turn}
@@ -61,6 +65,14 @@ front_word F put _ = None
 
 abbrev pub front_summed : (globals : List ℕ) → Frame → (put : Option (ℕ × ℕ)) → NodesT Where → Option (ℕ × Option (Instr Imm) × Instr Imm)
 front_summed gs F put c = cond (is_spared F put) (with_known gs F put (used_by c)) (front_word F put c)
+
+-- an access at an address that an operation that stands first works out with some behind it, and what is done in one go
+abbrev pub front_accessed : Frame → NodesT Where → NodesT Where → Option (ℕ × Address × Transfer)
+front_accessed F (Do o d) c = accessed F.lasting F.registers o c
+front_accessed F _ c = None
+
+abbrev pub front_one : Whole → Frame → (first behind : NodesT Where) → Option (ℕ × Option (Instr Imm) × Instr Imm)
+front_one W F first c = with_access F (front_accessed F first c) (front_summed W.globals F (front_put W first) c)
 
 abbrev pub ahead_items : Option (ℕ × Option (Instr Imm) × Instr Imm) → List AsmItem
 ahead_items None = []
@@ -121,18 +133,20 @@ more_ahead (Some (k, y)) other = Some k
 
 -- The items of an operation that stands first and is done in one go with others, where it is not done already; and a result that is given.
 abbrev pub front_items : Whole → Frame → NodesT Where → (done : ℕ) → List AsmItem
-front_items W F (Do o c) k = cond (k == 0) (made_or F (made_of W F o c) (led_ahead W F o c (lead (Do o c)))) []
+front_items W F (Do o c) k = cond (k == 0) (made_or F (made_of W F o c) (cond (is_unread (Do o c)) [] (led_ahead W F o c (lead (Do o c))))) []
 front_items W F (Return p c) k = cond (k == 0) (giving F p) []
 front_items W F _ k = []
 
 -- how many behind it are done then; none is said where its own items are due
 abbrev pub front_more : Whole → Frame → NodesT Where → (done : ℕ) → Option ℕ
-front_more W F (Do o c) k = cond (k == 0) (more_ahead (made_of W F o c) (led_behind W F o c (lead (Do o c)))) (Some (k - 1))
+front_more W F (Do o c) k =
+    cond (k == 0) (more_ahead (made_of W F o c) (cond (is_unread (Do o c)) (Some 0) (led_behind W F o c (lead (Do o c))))) (Some (k - 1))
 front_more W F _ k = None
 
--- a loop that copies words is done by a block move, where so many operations in front are done already and these registers are asked for
+-- A loop that copies words is done by a block move, where so many operations in front are done already and these registers are asked for; one that only asks
+-- for a turn by none.
 abbrev pub copied_own : (done : ℕ) → NodeT Where → (back : ℕ → Bool) → List AsmItem → List AsmItem
-copied_own k (LoopN b) J own = copy_or (copy_at k (joined b)) J own
+copied_own k (LoopN b) J own = ask_or (ask_of (joined b)) J (copy_or (copy_at k (joined b)) J own)
 copied_own k _ J own = own
 
 -- what puts the word of an operation where it goes, but for one that is left, where so many are left; and how many are left behind it

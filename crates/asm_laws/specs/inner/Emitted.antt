@@ -17,6 +17,7 @@ use Rattle.asm_laws.specs.Names.{jump_label, function_label}
 use Rattle.asm_laws.specs.Operations.{Frame, Whole, hand, brings, giving_left, next_items, next_more, call_items, start_frame, literals_items}
 use Rattle.asm_laws.specs.Framing.{frame_made, frame_gone}
 use Rattle.asm_laws.specs.Copies.{copy_at, copy_or}
+use Rattle.asm_laws.specs.Asks.{ask_of, ask_or}
 use Rattle.asm_laws.specs.Live.{live_soon, ahead}
 
 -- how many labels nodes take
@@ -167,9 +168,9 @@ module _ (W : Whole) (F : Frame) (out : Option ℕ) where
     items_past last ls n (Block b c) k =
         enclosed n (items_past (inside (ends last c)) (ls ++ n ∷ []) (n + 2) b 0) ++ items_past last ls (n + (2 + labels b)) c 0
     items_past last ls n (Loop b c) k =
-        copy_or (copy_at k b) (live_soon ahead F.lasting c)
+        ask_or (ask_of b) (live_soon ahead F.lasting c) (copy_or (copy_at k b) (live_soon ahead F.lasting c)
         (looped (is_tested b) n (items_past (inside (ends last c)) (ls ++ n ∷ []) (n + 2) b 0) (part_items (ls ++ n ∷ []) (n + 2) b)
-        (test_items (n + 2) b 0)) ++ items_past last ls (n + (2 + labels b)) c 0
+        (test_items (n + 2) b 0))) ++ items_past last ls (n + (2 + labels b)) c 0
     items_past last ls n (Leave j c) k = jump (add (enclosing ls j) 1) ∷ items_past last ls n c 0
     items_past last ls n (Again j c) k = again ls j (ends last c) ++ items_past last ls n c 0
     items_past last ls n (Return p c) k = giving_left F p k ++ (left_by F out (is_end (ends last c)) ++ items_past last ls n c 0)

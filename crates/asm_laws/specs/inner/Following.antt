@@ -102,7 +102,8 @@ abbrev pub DidSim : {L : Lang Where} → (X : Holder L) → X.K → State → Be
 DidSim X κ m b p d = DidBy X m b p (X.M κ Stop) d
 
 -- A call has come to the function's body, with 8 spare for the way back; from where the function ends, be it behind the body or before, it comes back.
-pub record Enters {L : Lang Where} (X : Holder L) (H : Shapes) (R : L.S → State → Type 0) (p : ℕ) (t : Option Where) (f : ℕ) (u s0 : L.S) (m : State) (b : Begin) : Type 0 where
+pub record Enters {L : Lang Where} (X : Holder L) (H : Shapes) (R : L.S → State → Type 0) (p : ℕ) (t : Option Where)
+    (f : ℕ) (u s0 : L.S) (m : State) (b : Begin) : Type 0 where
   pub inner : X.K
   pub link : Link
   pub end : ℕ
@@ -112,8 +113,8 @@ pub record Enters {L : Lang Where} (X : Holder L) (H : Shapes) (R : L.S → Stat
   pub back : (s1 : L.S) (m1 : State) → X.G inner s1 m1 → X.exits (X.fn inner) m1.counter
       → CameBy (link ∷ []) [] X m1 (begin X s1) (L.back t u s1) p 0 8 (R (L.back t u s1))
 
-abbrev pub CallSim : {L : Lang Where} → (X : Holder L) → Shapes → (R : L.S → State → Type 0) → ℕ → Option Where → ℕ → L.S → State → Begin → Did L.S
-    → Type 0
+abbrev pub CallSim : {L : Lang Where} → (X : Holder L) → Shapes → (R : L.S → State → Type 0) → ℕ → Option Where → ℕ → L.S → State
+    → Begin → Did L.S → Type 0
 CallSim X H R p t f u m b (On s0) = Enters X H R p t f u s0 m b
 CallSim X H R p t f u m b (Ends g s0) = (n : ℕ) → Final X n m b g s0
 
@@ -167,7 +168,7 @@ pub record Parts (L : Lang Where) (X : Holder L) (H : Shapes) : Type 0 where
   pub first : (κ : X.K) (p : Where) (x y c : NodesT Where) (s : L.S) (m : State) → X.M κ (Choose p x y c) s m → X.M κ x s m
   pub second : (κ : X.K) (p : Where) (x y c : NodesT Where) (s : L.S) (m : State) → X.M κ (Choose p x y c) s m → X.M κ y s m
   pub block : (κ : X.K) (b c : NodesT Where) (s : L.S) (m : State) → X.M κ (Block b c) s m → X.M κ b s m
-  pub loop : (κ : X.K) (b c : NodesT Where) (s : L.S) (m : State) → X.M κ (Loop b c) s m → X.M κ Stop s m
+  pub loop : (κ : X.K) (b c : NodesT Where) (s : L.S) (m : State) → H.plain b zero → X.M κ (Loop b c) s m → X.M κ Stop s m
   pub leave : (κ : X.K) (k : ℕ) (c : NodesT Where) (s : L.S) (m : State) → X.M κ (Leave k c) s m → X.M κ Stop s m
   pub again : (κ : X.K) (k : ℕ) (c : NodesT Where) (s : L.S) (m : State) → X.M κ (Again k c) s m → X.M κ Stop s m
   pub none : (κ : X.K) (s : L.S) (m : State) → X.M κ Stop s m → X.G κ (L.none s) m
@@ -179,10 +180,13 @@ pub record Parts (L : Lang Where) (X : Holder L) (H : Shapes) : Type 0 where
   pub made : (κ : X.K) (pc : ℕ) (o : OpT Where) (c : NodesT Where) (s : L.S) (m : State) → H.made (X.fn κ) pc o c → m.counter ≡ pc
       → X.M κ (Do o c) s m → (e n : ℕ) (ls : List Bounds) → Sim X κ (X.M κ Stop) m (begin X s) e n ls (did (L.act o s) (does L n (below L n) c))
   pub nothing : (function : ℕ) → H.opens function Stop
-  pub plain_first : (b : NodesT Where) → H.plain b zero
+  pub plain_first : (b : NodesT Where) (k : ℕ) → H.plain b k → H.plain b zero
   pub ready_first : (κ : X.K) (b c : NodesT Where) (s : L.S) (m : State) → X.M κ (Loop b c) s m → X.ready κ b c zero s m
   pub ready_plain : (κ : X.K) (b c : NodesT Where) (k : ℕ) (s : L.S) (m : State) → H.plain b k → X.ready κ b c k s m → X.M κ (Loop b c) s m
   pub copy : (κ : X.K) (pc p k : ℕ) (b c : NodesT Where) (s : L.S) (m : State) → H.copy (X.fn κ) pc b c k p → m.counter ≡ pc → X.ready κ b c k s m
+      → (n : ℕ) (ls : List Bounds)
+      → Sim X κ (X.M κ c) m (begin X s) p n ls (turn_done (does L n (below L n) b (L.tick node_weight s)) (below L n (Loop b Stop)))
+  pub ask : (κ : X.K) (pc p k : ℕ) (b c : NodesT Where) (s : L.S) (m : State) → H.ask (X.fn κ) pc b c p → m.counter ≡ pc → X.ready κ b c k s m
       → (n : ℕ) (ls : List Bounds)
       → Sim X κ (X.M κ c) m (begin X s) p n ls (turn_done (does L n (below L n) b (L.tick node_weight s)) (below L n (Loop b Stop)))
   pub test : (κ : X.K) (pc py px : ℕ) (w : Where) (x y c : NodesT Where) (s : L.S) (m : State) → H.test (X.fn κ) pc w py px → m.counter ≡ pc

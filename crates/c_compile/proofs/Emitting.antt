@@ -16,6 +16,7 @@ use Rattle.mid_code.specs.Calls.{NoneAdd}
 use Rattle.mid_code.specs.Placed.{PlacedT}
 use Rattle.mid_code.specs.Choices.{AreSafe}
 use Rattle.mid_lower.specs.LoweredFrom.{EachLowered, IsLoweredFrom}
+use Rattle.mid_replace.specs.ReplacedFrom.{EachReplaced, IsReplacedFrom}
 use Rattle.mid_improve.specs.MadeFrom.{EachMade, IsSettledFrom}
 use Rattle.reg_frames.specs.PlacedFrom.{IsPlacedFrom}
 use Rattle.asm_emit.specs.EmittedFrom.{CanBeEmitted, IsEmitted, literal_words}
@@ -61,6 +62,18 @@ as_made [] (g ∷ gs) h = absurd h
 as_made (f ∷ fs) [] h = absurd h
 as_made (f ∷ fs) (g ∷ gs) h = ap suc (as_made fs gs h.1)
 
+as_replaced : (fs gs : List (FunctionT ℕ)) → EachReplaced fs gs → length fs ≡ length gs
+as_replaced [] [] h = refl
+as_replaced [] (g ∷ gs) h = absurd h
+as_replaced (f ∷ fs) [] h = absurd h
+as_replaced (f ∷ fs) (g ∷ gs) h = ap suc (as_replaced fs gs h.1)
+
+replaced_adds_none : (fs gs : List (FunctionT ℕ)) → EachReplaced fs gs → NoneAdd fs gs
+replaced_adds_none [] [] h = tt
+replaced_adds_none [] (g ∷ gs) h = absurd h
+replaced_adds_none (f ∷ fs) [] h = absurd h
+replaced_adds_none (f ∷ fs) (g ∷ gs) h = (h.0.adds_none, replaced_adds_none fs gs h.1)
+
 made_adds_none : (fs gs : List (FunctionT ℕ)) → EachMade fs gs → NoneAdd fs gs
 made_adds_none [] [] h = tt
 made_adds_none [] (g ∷ gs) h = absurd h
@@ -73,16 +86,16 @@ as_placed [] (g ∷ gs) h = absurd h
 as_placed (f ∷ fs) [] h = absurd h
 as_placed (f ∷ fs) (g ∷ gs) h = ap suc (as_placed fs gs h.1)
 
-module _ (p : ProgramT) (m settled : CodeT ℕ) (cs : List (List Where)) (x : PlacedT) (l : IsLoweredFrom p m) (o : IsSettledFrom m settled) (c : IsPlacedFrom settled cs x) where
+module _ (p : ProgramT) (m r settled : CodeT ℕ) (cs : List (List Where)) (x : PlacedT) (l : IsLoweredFrom p m) (w : IsReplacedFrom m r) (o : IsSettledFrom r settled) (c : IsPlacedFrom settled cs x) where
   pub can_be_emitted : (names : List (List ℕ)) → names ≡ names_of p → IsSound p → program_nodes p ≤ 200000 → CanBeEmitted x names
   can_be_emitted names e sound few =
-      let literals : x.code.literals ≡ p.literals = c.literals ∙ o.made.literals ∙ l.literals in
+      let literals : x.code.literals ≡ p.literals = c.literals ∙ o.made.literals ∙ w.literals ∙ l.literals in
       let words : literal_words x ≤ 4000000 = subst (λ (ts : List (List ℕ)). sum_by (λ t. length t + 1) ts ≤ 4000000) (sym literals) sound.literals in
       record {
-        named = ap length e ∙ length-map p.functions (λ f. f.name) ∙ as_lowered (setting p []) p.functions m.functions l.functions ∙ as_made m.functions settled.functions o.made.functions ∙ as_placed settled.functions x.code.functions c.adds_none;
+        named = ap length e ∙ length-map p.functions (λ f. f.name) ∙ as_lowered (setting p []) p.functions m.functions l.functions ∙ as_replaced m.functions r.functions w.functions ∙ as_made r.functions settled.functions o.made.functions ∙ as_placed settled.functions x.code.functions c.adds_none;
         differ = subst AreDifferent (sym e) (different (names_of p) sound.function_names);
         words = ap (list_all is_word) e ∙ names_are_words (scene p) p.functions sound.functions;
-        room = omega (arith, words, few, l.weighs, o.made.weighs, c.weighs);
+        room = omega (arith, words, few, l.weighs, w.weighs, o.made.weighs, c.weighs);
       }
 
   pub is_compiled : (items : List AsmItem) → AreSafe settled cs → AllSpare settled cs → IsEmitted x (names_of p) items → PassesMeet → IsCompiled p (record { mid = settled; choices = cs; placed = x; items = items })
@@ -94,6 +107,7 @@ module _ (p : ProgramT) (m settled : CodeT ℕ) (cs : List (List Where)) (x : Pl
     placed = c;
     emitted = emitted;
     straight = each_straight (setting p []) p.functions m.functions x.code.functions l.functions
-        (none_add m.functions settled.functions x.code.functions (made_adds_none m.functions settled.functions o.made.functions) c.adds_none);
-    meaning = meet p m settled cs x (names_of p) items l o safe c emitted;
+        (none_add m.functions r.functions x.code.functions (replaced_adds_none m.functions r.functions w.functions)
+        (none_add r.functions settled.functions x.code.functions (made_adds_none r.functions settled.functions o.made.functions) c.adds_none));
+    meaning = meet p m r settled cs x (names_of p) items l w o safe c emitted;
   }

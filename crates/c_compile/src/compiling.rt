@@ -15,6 +15,7 @@ use kit_base::Memory;
 use mid_code::{Choice, Mid, Placed};
 use mid_improve::settle;
 use mid_lower::lower;
+use mid_replace::replace;
 use pass_laws::passes_meet;
 use reg_choose::choose_all;
 use reg_frames::place;
@@ -39,7 +40,8 @@ pub fn compile_lowered(alloc: Global, checked: &Program, lowered: Mid) -> Result
     programs_are_sound(checked);
     programs_have_few_nodes(checked);
     passes_meet();
-    let mid = settle(alloc, lowered)?;
+    let replaced = replace(alloc, lowered)?;
+    let mid = settle(alloc, replaced)?;
     let chosen = choose_all(alloc, &mid)?;
     let choices = share_all(alloc, &mid, chosen)?;
     let placed = place(alloc, &mid, &choices)?;
@@ -53,9 +55,9 @@ pub fn compile_lowered(alloc: Global, checked: &Program, lowered: Mid) -> Result
     })
 }
 
-/// What is made of a program: it is lowered to mid code, which is settled by promotion of locals to temporaries (mem2reg), constant folding, copy propagation
-/// and dead code elimination, in rounds; a register or slot is chosen for each temporary, which operands share with targets; and the code over these places
-/// becomes assembly items. The error is want of memory.
+/// What is made of a program: it is lowered to mid code; the words of small structures are held in temporaries; the code is settled by promotion of locals to
+/// temporaries (mem2reg), constant folding, copy propagation and dead code elimination, in rounds; a register or slot is chosen for each temporary, which
+/// operands share with targets; and the code over these places becomes assembly items. The error is want of memory.
 pub fn compile(alloc: Global, checked: &Program) -> Result<Compiled, Memory>
     ensures compiled { IfOk result (λ c. IsCompiled (program checked.now) (compiled c)) }
 {

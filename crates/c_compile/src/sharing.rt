@@ -5,6 +5,7 @@
 // them are given register 8, which the emitter leaves unused then. What is made is taken only where `is_safe` of reg_choose says that it is safe, so safe
 // choices stay safe.
 mod arguments;
+mod copies;
 mod entry;
 mod immediates;
 mod merge;

@@ -22,21 +22,28 @@ use Rattle.mid_code.proofs.Keeping.{keeps_through}
 use Rattle.mid_code.proofs.Agreeing.{within_through, works_through}
 use Rattle.mid_lower.specs.LoweredFrom.{IsLoweredFunction, IsLoweredFrom}
 use Rattle.mid_lower.specs.SourceLoops.{HasNoLoops, TreeCalls}
+use Rattle.mid_replace.specs.ReplacedFrom.{IsReplacedFrom}
 use Rattle.mid_improve.specs.MadeFrom.{IsSettledFrom}
 use Rattle.reg_frames.specs.PlacedFrom.{IsPlacedFrom}
 use Rattle.asm_emit.specs.EmittedFrom.{IsEmitted, literal_words}
 use Rattle.asm_laws.specs.Tables.{addresses}
 
-module _ (p : ProgramT) (m settled : CodeT ℕ) (cs : List (List Where)) (x : PlacedT) (names : List (List ℕ)) (items : List AsmItem)
-    (l : IsLoweredFrom p m) (o : IsSettledFrom m settled) (c : IsPlacedFrom settled cs x) (e : IsEmitted x names items) where
+module _ (p : ProgramT) (m r settled : CodeT ℕ) (cs : List (List Where)) (x : PlacedT) (names : List (List ℕ)) (items : List AsmItem)
+    (l : IsLoweredFrom p m) (w : IsReplacedFrom m r) (o : IsSettledFrom r settled) (c : IsPlacedFrom settled cs x) (e : IsEmitted x names items) where
   abbrev source : Meaning
   source = c_runs p x.frames
 
+  replaced_keeps : KeepsRuns source (mid_runs r x.frames)
+  replaced_keeps = keeps_through source (mid_runs m x.frames) (mid_runs r x.frames) (l.keeps x.frames) (w.keeps x.frames)
+
+  replaced_works : WorksAtMost 64 source (mid_runs r x.frames)
+  replaced_works = works_through 64 source (mid_runs m x.frames) (mid_runs r x.frames) (l.keeps x.frames) (l.works x.frames) (w.works x.frames)
+
   pub settled_keeps : KeepsRuns source (mid_runs settled x.frames)
-  settled_keeps = keeps_through source (mid_runs m x.frames) (mid_runs settled x.frames) (l.keeps x.frames) (o.made.keeps x.frames)
+  settled_keeps = keeps_through source (mid_runs r x.frames) (mid_runs settled x.frames) replaced_keeps (o.made.keeps x.frames)
 
   settled_works : WorksAtMost 64 source (mid_runs settled x.frames)
-  settled_works = works_through 64 source (mid_runs m x.frames) (mid_runs settled x.frames) (l.keeps x.frames) (l.works x.frames) (o.made.works x.frames)
+  settled_works = works_through 64 source (mid_runs r x.frames) (mid_runs settled x.frames) replaced_keeps replaced_works (o.made.works x.frames)
 
   pub keeps : KeepsRuns source (placed_runs x)
   keeps = keeps_through source (mid_runs settled x.frames) (placed_runs x) settled_keeps c.keeps
@@ -45,7 +52,7 @@ module _ (p : ProgramT) (m settled : CodeT ℕ) (cs : List (List Where)) (x : Pl
   works = works_through 64 source (mid_runs settled x.frames) (placed_runs x) settled_keeps settled_works c.works
 
   same_globals : x.code.globals ≡ map (λ g. g.1) p.globals
-  same_globals = c.globals ∙ o.made.globals ∙ l.globals
+  same_globals = c.globals ∙ o.made.globals ∙ w.globals ∙ l.globals
 
   pub agrees : (words : List ℕ) (labels : List (List ℕ × ℕ)) → asm.Placed items words labels → AgreesWithin 64 (addresses 0 (map (λ g. g.1) p.globals)) source words
   agrees words labels stands =
@@ -59,10 +66,10 @@ module _ (p : ProgramT) (m settled : CodeT ℕ) (cs : List (List Where)) (x : Pl
       (within_through 1 (addresses 0 x.code.globals) (mid_runs settled x.frames) (placed_runs x) words c.keeps c.works (e.agrees words labels stands))
 
   same_literals : x.code.literals ≡ p.literals
-  same_literals = c.literals ∙ o.made.literals ∙ l.literals
+  same_literals = c.literals ∙ o.made.literals ∙ w.literals ∙ l.literals
 
   placed_small : total_size items ≤ 128 * program_nodes p + literal_words x + 64
-  placed_small = omega (arith, e.small, c.weighs, o.made.weighs, l.weighs)
+  placed_small = omega (arith, e.small, c.weighs, o.made.weighs, w.weighs, l.weighs)
 
   pub items_small : total_size items ≤ 128 * program_nodes p + sum_by (λ text. length text + 1) p.literals + 64
   items_small = subst (λ (texts : List (List ℕ)). total_size items ≤ 128 * program_nodes p + sum_by (λ text. length text + 1) texts + 64) same_literals placed_small

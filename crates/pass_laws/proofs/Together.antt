@@ -4,16 +4,16 @@ use Rattle.pass_laws.proofs.Chain as chain
 use Rattle.pass_laws.proofs.FrameChain.{frames_fit}
 
 pub meet : PassesMeet
-meet p m settled cs x names items l o a c e = record {
-  keeps = chain.settled_keeps p m settled cs x names items l o c e;
-  follows = chain.follows p m settled cs x names items l o c e;
+meet p m r settled cs x names items l w o a c e = record {
+  keeps = chain.settled_keeps p m r settled cs x names items l w o c e;
+  follows = chain.follows p m r settled cs x names items l w o c e;
   does = λ words labels stands. record {
-    agrees = chain.agrees p m settled cs x names items l o c e words labels stands;
-    fits = frames_fit p m settled cs x l o a c;
-    small = chain.small p m settled cs x names items l o c e words labels stands;
+    agrees = chain.agrees p m r settled cs x names items l w o c e words labels stands;
+    fits = frames_fit p m r settled cs x l w o a c;
+    small = chain.small p m r settled cs x names items l w o c e words labels stands;
   };
-  fits = frames_fit p m settled cs x l o a c;
-  small = chain.items_small p m settled cs x names items l o c e;
+  fits = frames_fit p m r settled cs x l w o a c;
+  small = chain.items_small p m r settled cs x names items l w o c e;
 }
 
 pub stays : StraightStays

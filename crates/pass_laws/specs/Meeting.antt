@@ -18,6 +18,7 @@ use Rattle.mid_code.specs.Keeps.{KeepsRuns}
 use Rattle.mid_code.specs.Runs.{mid_runs}
 use Rattle.mid_lower.specs.LoweredFrom.{IsLoweredFunction, IsLoweredFrom}
 use Rattle.mid_lower.specs.SourceLoops.{HasNoLoops, TreeCalls}
+use Rattle.mid_replace.specs.ReplacedFrom.{IsReplacedFrom}
 use Rattle.mid_improve.specs.MadeFrom.{IsSettledFrom}
 use Rattle.reg_frames.specs.PlacedFrom.{IsPlacedFrom}
 use Rattle.asm_laws.specs.Tables.{addresses}
@@ -48,8 +49,8 @@ pub record KeepsMeaning (p : ProgramT) (settled : CodeT ℕ) (x : PlacedT) (item
 
 abbrev pub PassesMeet : Type 0
 PassesMeet =
-    (p : ProgramT) (m settled : CodeT ℕ) (cs : List (List Where)) (x : PlacedT) (names : List (List ℕ)) (items : List AsmItem)
-    → IsLoweredFrom p m → IsSettledFrom m settled → AreSafe settled cs → IsPlacedFrom settled cs x
+    (p : ProgramT) (m r settled : CodeT ℕ) (cs : List (List Where)) (x : PlacedT) (names : List (List ℕ)) (items : List AsmItem)
+    → IsLoweredFrom p m → IsReplacedFrom m r → IsSettledFrom r settled → AreSafe settled cs → IsPlacedFrom settled cs x
     → IsEmitted x names items → KeepsMeaning p settled x items
 
 -- a function in the tree, lowered, settled, and placed

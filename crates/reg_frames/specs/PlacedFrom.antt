@@ -10,9 +10,9 @@ use Rattle.mid_code.specs.Choices.{slot_count}
 use Rattle.mid_code.specs.Calls.{AddsNone, NoneAdd}
 use Rattle.mid_code.specs.Together.{HoldsAtOnce}
 
--- A frame is at most the words of the locals, the slots and 16. Each local has words of its own in it, so it holds the locals that live at once.
+-- A frame is at most the words of the locals and the slots. Each local has words of its own in it, so it holds the locals that live at once.
 pub record IsFrameOf (f : FunctionT ℕ) (at : List Where) (size : ℕ) : Type 0 where
-  pub at_most : size ≤ sum f.locals + slot_count at + 16
+  pub at_most : size ≤ sum f.locals + slot_count at
   pub holds_all : sum f.locals ≤ size
   pub at_least : HoldsAtOnce f size
 

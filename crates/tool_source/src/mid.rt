@@ -8,6 +8,7 @@ use mid_code::Mid;
 use mid_evaluate::evaluate_mid;
 use mid_improve::{is_settled, settle};
 use mid_lower::lower;
+use mid_replace::replace;
 use mid_scalars::promote;
 use mid_text::write_mid;
 use obj_mem::Frames;
@@ -19,7 +20,7 @@ fn code_of(alloc: Global, program: &Program, stage: Stage) -> Result<Mid, Memory
     match stage {
         Stage::Lowered => Ok(code),
         Stage::Promoted => promote(alloc, code),
-        Stage::Settled => settle(alloc, code),
+        Stage::Settled => settle(alloc, replace(alloc, code)?),
     }
 }
 

@@ -14,7 +14,7 @@ pub(crate) struct Callees<'a> {
 }
 
 /// The place of a parameter, where its function's choice is made already, or is the one that is being made.
-fn place_of(callees: Callees, at: &[Where], g: u32, k: usize) -> Option<Where> {
+pub(crate) fn place_of(callees: Callees, at: &[Where], g: u32, k: usize) -> Option<Where> {
     let i = g as usize;
     let f = callees.functions.get(i)?;
     let p = f.params.as_slice().get(k)?;

@@ -8,10 +8,13 @@ ghost use Rattle.mid_code.specs.Safe.{IsSafe, SparesSlots, IsRegister, AllPlaces
 ghost use Rattle.reg_choose.specs.Each.{EachSpares, AllSpare, places_in, IsNamed};
 
 use crate::sharing::arguments::Callees;
+use crate::sharing::copies::{
+    Wish, first_way, has_pair, is_open, open_wishes, second_way, wishes_of,
+};
 use crate::sharing::entry::merge_params;
 use crate::sharing::merge::{merge_nodes, put};
 use crate::sharing::registers::adds_no_slot;
-use crate::sharing::singles::{counts, singles};
+use crate::sharing::singles::{Count, counts, singles};
 use crate::sharing::slots::{has_slot, have_call, most_named};
 use crate::sharing::spare::leave_register;
 use kit_base::{Memory, Seq};
@@ -162,8 +165,111 @@ fn lifted(alloc: Global, f: &Function<u32>, given: Choice) -> Result<Choice, Mem
     in_register(alloc, f, first, u)
 }
 
+/// The choice in which a wish is met, where one of the two ways to it serves, else the one given.
+fn wished(
+    alloc: Global,
+    f: &Function<u32>,
+    given: Choice,
+    counts: &[Count],
+    single: &[bool],
+    w: Wish,
+) -> Result<Choice, Memory>
+    requires named { IsNamed (function f.now) }
+    requires safe { IsSafe (function f.now) given.at }
+    requires spares { SparesSlots (function f.now) given.at }
+    ensures safe { IfOk result (λ c. IsSafe (function f.now) c.at) }
+    ensures spares { IfOk result (λ c. SparesSlots (function f.now) c.at) }
+{
+    if !is_open(given.at.as_slice(), w) {
+        return Ok(given);
+    }
+    if let Some(at) = first_way(alloc, single, given.at.as_slice(), w)? {
+        let other = Choice {
+            at: Seq::from_vec(at),
+        };
+        if serves(alloc, f, given.at.as_slice(), &other)? {
+            return Ok(other);
+        }
+    }
+    let Some(at) = second_way(alloc, counts, single, given.at.as_slice(), w)? else {
+        return Ok(given);
+    };
+    let other = Choice {
+        at: Seq::from_vec(at),
+    };
+    if serves(alloc, f, given.at.as_slice(), &other)? {
+        Ok(other)
+    } else {
+        Ok(given)
+    }
+}
+
+/// The choice in which the wishes are met one after another, where that serves.
+fn all_wished(
+    alloc: Global,
+    f: &Function<u32>,
+    given: Choice,
+    counts: &[Count],
+    single: &[bool],
+    wishes: &[Wish],
+) -> Result<Choice, Memory>
+    requires named { IsNamed (function f.now) }
+    requires safe { IsSafe (function f.now) given.at }
+    requires spares { SparesSlots (function f.now) given.at }
+    ensures safe { IfOk result (λ c. IsSafe (function f.now) c.at) }
+    ensures spares { IfOk result (λ c. SparesSlots (function f.now) c.at) }
+{
+    let mut best = given;
+    'wishes: for w in wishes {
+        best = wished(alloc, f, best, counts, single, *w)?;
+    }
+    Ok(best)
+}
+
+/// The choice with fewer copies between registers, for functions whose locals may be held in temporaries: where fewer wishes stand open in it.
+fn coalesced(
+    alloc: Global,
+    f: &Function<u32>,
+    given: Choice,
+    functions: &[Function<u32>],
+    choices: &[Choice],
+) -> Result<Choice, Memory>
+    requires named { IsNamed (function f.now) }
+    requires safe { IsSafe (function f.now) given.at }
+    requires spares { SparesSlots (function f.now) given.at }
+    ensures safe { IfOk result (λ c. IsSafe (function f.now) c.at) }
+    ensures spares { IfOk result (λ c. SparesSlots (function f.now) c.at) }
+{
+    if !has_pair(f) || f.temps > MOST_LIFTED {
+        return Ok(given);
+    }
+    let counts = counts(alloc, f)?;
+    let single = singles(alloc, counts.as_slice())?;
+    let callees = Callees {
+        functions,
+        choices,
+        spares: false,
+    };
+    let wishes = wishes_of(alloc, f, given.at.as_slice(), callees)?;
+    let start = copy(alloc, given.at.as_slice())?;
+    let other = all_wished(
+        alloc,
+        f,
+        start,
+        counts.as_slice(),
+        single.as_slice(),
+        wishes.as_slice(),
+    )?;
+    let before = open_wishes(given.at.as_slice(), wishes.as_slice());
+    if open_wishes(other.at.as_slice(), wishes.as_slice()) < before {
+        Ok(other)
+    } else {
+        Ok(given)
+    }
+}
+
 /// The choice for one function: temporaries leave slots where that serves; then the one in which operands share places where it serves; then the same of
-/// parameters.
+/// parameters; then copies between registers are spared.
 fn share(
     alloc: Global,
     f: &Function<u32>,
@@ -179,11 +285,12 @@ fn share(
 {
     let start = lifted(alloc, f, copy(alloc, given)?)?;
     let other = merged(alloc, f, start.at.as_slice(), functions, choices)?;
-    if serves(alloc, f, start.at.as_slice(), &other)? {
-        share_entry(alloc, f, other)
+    let shared = if serves(alloc, f, start.at.as_slice(), &other)? {
+        share_entry(alloc, f, other)?
     } else {
-        share_entry(alloc, f, start)
-    }
+        share_entry(alloc, f, start)?
+    };
+    coalesced(alloc, f, shared, functions, choices)
 }
 
 /// The first function and those behind it.

@@ -1,7 +1,11 @@
 struct Pair { int a; int b; };
+struct Row { int a; int b; int c; };
 Pair p;
 Pair q;
-void copies() { p = q; }
+Row r;
+Row s;
+void copies() { r = s; }
+void copies_pair() { p = q; }
 void copies_members() { p.a = q.a; p.b = q.b; }
 void fills() { int[5] a = { 1, 2 }; p.a = a[0]; }
 void names_each() { int[2] a = { 1, 2 }; p.a = a[0]; }

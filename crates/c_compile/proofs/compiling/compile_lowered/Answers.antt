@@ -15,7 +15,7 @@ emit-requires c =
     let names : c.deref-2.result.now ≡ names_of p = search rules in
     let same : c.deref.result.now ≡ c.in_ok-choices.choices.items = search rules in
     let put = subst (λ (cs : List Choice). IsPlacedFrom (mid c.in_ok-mid.mid) (places_of cs) (placed c.in_ok-placed.placed)) same c.in_ok-placed.ensures.placed in
-    record { can_be_emitted = can_be_emitted p (mid c.args.lowered) (mid c.in_ok-mid.mid) (places_of c.in_ok-choices.choices.items) (placed c.in_ok-placed.placed) c.requires.lowered c.in_ok-mid.ensures.settled put c.deref-2.result.now names c.programs_are_sound.ensures.sound c.programs_have_few_nodes.ensures.few }
+    record { can_be_emitted = can_be_emitted p (mid c.args.lowered) (mid c.in_ok-replaced.replaced) (mid c.in_ok-mid.mid) (places_of c.in_ok-choices.choices.items) (placed c.in_ok-placed.placed) c.requires.lowered c.in_ok-replaced.ensures.replaced c.in_ok-mid.ensures.settled put c.deref-2.result.now names c.programs_are_sound.ensures.sound c.programs_have_few_nodes.ensures.few }
 
 pub returns : goal.returns
 returns c =
@@ -24,4 +24,4 @@ returns c =
     let same : c.deref.result.now ≡ c.in_ok-choices.choices.items = search rules in
     let put = subst (λ (cs : List Choice). IsPlacedFrom (mid c.in_ok-mid.mid) (places_of cs) (placed c.in_ok-placed.placed)) same c.in_ok-placed.ensures.placed in
     let made = subst (λ (ns : List (List ℕ)). IsEmitted (placed c.in_ok-placed.placed) ns c.in_ok-items.items.items) names c.in_ok-items.ensures.emitted in
-    record { compiled = is_compiled p (mid c.args.lowered) (mid c.in_ok-mid.mid) (places_of c.in_ok-choices.choices.items) (placed c.in_ok-placed.placed) c.requires.lowered c.in_ok-mid.ensures.settled put c.in_ok-items.items.items c.in_ok-choices.ensures.safe c.in_ok-choices.ensures.spares made c.passes_meet.ensures }
+    record { compiled = is_compiled p (mid c.args.lowered) (mid c.in_ok-replaced.replaced) (mid c.in_ok-mid.mid) (places_of c.in_ok-choices.choices.items) (placed c.in_ok-placed.placed) c.requires.lowered c.in_ok-replaced.ensures.replaced c.in_ok-mid.ensures.settled put c.in_ok-items.items.items c.in_ok-choices.ensures.safe c.in_ok-choices.ensures.spares made c.passes_meet.ensures }

@@ -88,7 +88,8 @@ word_copied p q = DoP (o.Load cell p) ▸ DoP (o.Store q cell)
 -- The second word is that of a further turn.
 abbrev pub pair_copied : (p q : ℕ) → Piece
 pair_copied p q =
-    word_copied p q ▸ asked ▸ DoP (o.Const one 1) ▸ DoP (o.Step from p one) ▸ DoP (o.Load cell from) ▸ DoP (o.Step to q one) ▸ DoP (o.Store to cell)
+    word_copied p q ▸ asked ▸ DoP (o.Const one 1) ▸ DoP (o.Step from p one)
+    ▸ DoP (o.Load cell from) ▸ DoP (o.Const one 1) ▸ DoP (o.Step to q one) ▸ DoP (o.Store to cell)
 
 -- by so many words: what is done for none, one, two and more
 abbrev pub by_size : (size : ℕ) → (a b c d : Piece) → Piece
@@ -114,11 +115,11 @@ moved_by t p offset = DoP (o.Const t offset) ▸ DoP (o.Step t p t)
 abbrev pub word_read : (local t : ℕ) → Piece
 word_read k t = DoP (o.Load cell t) ▸ DoP (o.Local t k) ▸ DoP (o.Store t cell)
 
--- Of two words the place of the second is known before t leaves that of the first.
+-- Of two words the place of the second is known before t leaves that of the first; the 1 that it is stepped by asks for the further turn.
 abbrev pub pair_read : (local t : ℕ) → Piece
 pair_read k t =
-    DoP (o.Load cell t) ▸ DoP (o.Const one 1) ▸ DoP (o.Step from t one) ▸ DoP (o.Local t k) ▸ DoP (o.Store t cell)
-    ▸ asked ▸ DoP (o.Load cell from) ▸ DoP (o.Step to t one) ▸ DoP (o.Store to cell)
+    DoP (o.Load cell t) ▸ DoP (o.Const count 1) ▸ DoP (o.Step from t count) ▸ DoP (o.Local t k) ▸ DoP (o.Store t cell)
+    ▸ LoopP ask_turn ▸ DoP (o.Load cell from) ▸ DoP (o.Const one 1) ▸ DoP (o.Step to t one) ▸ DoP (o.Store to cell)
 
 abbrev pub local_filled : (size local t : ℕ) → Piece
 local_filled size k t =

@@ -203,15 +203,22 @@ fn ask_turn(alloc: Global, nodes: &mut Nodes) -> Result<(), Memory>
     put_choice(nodes, COUNT, further, Vec::new(alloc))
 }
 
+/// Asks for one more turn, in which nothing is done, where a cell is left.
+fn ask_if_left(alloc: Global, nodes: &mut Nodes) -> Result<(), Memory>
+    ensures { OnOk result (AddsCode nodes.old nodes.new (LoopP ask_turn)) }
+{
+    let mut turn = Vec::new(alloc);
+    let answer = ask_turn(alloc, &mut turn);
+    let (turn, _) = keeping(turn, answer)?;
+    put_loop(nodes, turn)
+}
+
 /// Asks for one more turn, in which nothing is done.
 fn ask(alloc: Global, nodes: &mut Nodes) -> Result<(), Memory>
     ensures { OnOk result (AddsCode nodes.old nodes.new asked) }
 {
     put(nodes, Op::Const(COUNT, 1))?;
-    let mut turn = Vec::new(alloc);
-    let answer = ask_turn(alloc, &mut turn);
-    let (turn, _) = keeping(turn, answer)?;
-    put_loop(nodes, turn)
+    ask_if_left(alloc, nodes)
 }
 
 /// Copies the cell at the place in `p` to the place in `q`.
@@ -224,19 +231,21 @@ fn copy_word(nodes: &mut Nodes, p: u32, q: u32) -> Result<(), Memory>
 
 /// Copies the second of two cells, whose place is known, behind the place in `q`.
 fn copy_second(nodes: &mut Nodes, q: u32) -> Result<(), Memory>
-    ensures { OnOk result (AddsCode nodes.old nodes.new (DoP (Op.Load cell from) ▸ DoP (Op.Step to q one) ▸ DoP (Op.Store to cell))) }
+    ensures { OnOk result (AddsCode nodes.old nodes.new
+        (DoP (Op.Load cell from) ▸ DoP (Op.Const one 1) ▸ DoP (Op.Step to q one) ▸ DoP (Op.Store to cell))) }
 {
     put(nodes, Op::Load(CELL, FROM))?;
+    put(nodes, Op::Const(ONE, 1))?;
     put(nodes, Op::Step(TO, q, ONE))?;
     put(nodes, Op::Store(TO, CELL))
 }
 
-/// Makes a pointer to the second of two cells, behind the place in `p`.
-fn point_second(nodes: &mut Nodes, p: u32) -> Result<(), Memory>
-    ensures { OnOk result (AddsCode nodes.old nodes.new (DoP (Op.Const one 1) ▸ DoP (Op.Step from p one))) }
+/// Makes a pointer to the second of two cells, behind the place in `p`; a 1 comes to `t`.
+fn point_second(nodes: &mut Nodes, p: u32, t: u32) -> Result<(), Memory>
+    ensures { OnOk result (AddsCode nodes.old nodes.new (DoP (Op.Const t 1) ▸ DoP (Op.Step from p t))) }
 {
-    put(nodes, Op::Const(ONE, 1))?;
-    put(nodes, Op::Step(FROM, p, ONE))
+    put(nodes, Op::Const(t, 1))?;
+    put(nodes, Op::Step(FROM, p, t))
 }
 
 /// Copies the two cells at the place in `p` to the place in `q`.
@@ -245,7 +254,7 @@ fn copy_pair(alloc: Global, nodes: &mut Nodes, p: u32, q: u32) -> Result<(), Mem
 {
     copy_word(nodes, p, q)?;
     ask(alloc, nodes)?;
-    point_second(nodes, p)?;
+    point_second(nodes, p, ONE)?;
     copy_second(nodes, q)
 }
 
@@ -326,10 +335,10 @@ fn store_first(nodes: &mut Nodes, local: u32, t: u32) -> Result<(), Memory>
 /// Copies the first of the two cells at the place in `t` to a local, and puts a pointer to that into `t`.
 fn read_first(nodes: &mut Nodes, local: u32, t: u32) -> Result<(), Memory>
     ensures { OnOk result (AddsCode nodes.old nodes.new
-        (DoP (Op.Load cell t) ▸ DoP (Op.Const one 1) ▸ DoP (Op.Step from t one) ▸ DoP (Op.Local t local) ▸ DoP (Op.Store t cell))) }
+        (DoP (Op.Load cell t) ▸ DoP (Op.Const count 1) ▸ DoP (Op.Step from t count) ▸ DoP (Op.Local t local) ▸ DoP (Op.Store t cell))) }
 {
     put(nodes, Op::Load(CELL, t))?;
-    point_second(nodes, t)?;
+    point_second(nodes, t, COUNT)?;
     store_first(nodes, local, t)
 }
 
@@ -338,7 +347,7 @@ fn read_pair(alloc: Global, nodes: &mut Nodes, local: u32, t: u32) -> Result<(),
     ensures { OnOk result (AddsCode nodes.old nodes.new (pair_read local t)) }
 {
     read_first(nodes, local, t)?;
-    ask(alloc, nodes)?;
+    ask_if_left(alloc, nodes)?;
     copy_second(nodes, t)
 }
 

@@ -282,18 +282,20 @@ module _ (S : Site) (γ : Goal) (span : Span) (cost : ℕ) (some : 1 ≤ cost) w
       (λ os z hz alike. f (on_store (with_objects os) (spend cost w)) z hz (λ j ne. alike j ∙ rest j ne)))
 
   -- the word behind the first, whose place `from` has; b has the place of the first
-  pub word_behind : (σ : Way γ) (s0 n o i b d j : ℕ) (w : World) (x : Side) (c : NodesT ℕ) → Now γ s0 w x → 3 ≤ b → x.temps part.one ≡ Num 1 → x.temps part.from ≡ Ptr o i → x.temps b ≡ Ptr d j → (go : World → σ.R)
-      → ((v : World) (y : Side) → Now γ (s0 + 40) v y → ((k : ℕ) → eqb k part.cell ≡ false → eqb k part.to ≡ false → y.temps k ≡ x.temps k) → σ.T (go v) (M S c (mk v y)))
-      → σ.T (then_went σ.stop (cells_set span cost n (suc zero) (Some (Ptr o i)) (further (Ptr d j) 1) w) go) (M S (Do (LoadO part.cell part.from) (Do (StepO part.to b part.one) (Do (StoreO part.to part.cell) c))) (mk w x))
-  word_behind σ s0 n o i b d j w x c h le e1 ef eb go f =
+  pub word_behind : (σ : Way γ) (s0 n o i b d j : ℕ) (w : World) (x : Side) (c : NodesT ℕ) → Now γ s0 w x → 3 ≤ b → x.temps part.from ≡ Ptr o i → x.temps b ≡ Ptr d j → (go : World → σ.R)
+      → ((v : World) (y : Side) → Now γ (s0 + 32) v y → ((k : ℕ) → eqb k part.cell ≡ false → eqb k part.to ≡ false → eqb k part.one ≡ false → y.temps k ≡ x.temps k) → σ.T (go v) (M S c (mk v y)))
+      → σ.T (then_went σ.stop (cells_set span cost n (suc zero) (Some (Ptr o i)) (further (Ptr d j) 1) w) go) (M S (Do (LoadO part.cell part.from) (Do (ConstO part.one 1) (Do (StepO part.to b part.one) (Do (StoreO part.to part.cell) c)))) (mk w x))
+  word_behind σ s0 n o i b d j w x c h le ef eb go f =
       let q : Cell = further (Ptr d j) 1 in
       let w1 : World = spend cost w in
-      cell_first σ s0 n zero part.from (Ptr o i) q w x (Do (StepO part.to b part.one) (Do (StoreO part.to part.cell) c)) h ef go (λ v y hy at rest.
-      sets S σ.T γ (s0 + 48) w1 y part.to q (StepO part.to b part.one) (Do (StoreO part.to part.cell) c) (spare γ (s0 + 56) (s0 + 48 + 8) w1 y (omega arith) hy) (low_free γ part.to (omega arith))
-      (ap (λ u. to temporaries part.to u (spent 8 (mk w1 y))) (step_eq (Ptr d j) (Num 1) (y.temps b) (y.temps part.one) (rest b (eqb_more b part.cell (omega (arith, le))) ∙ eb) (rest part.one refl ∙ e1)))
-      (asked σ.stop span w1 (write w.store.objects q v) (λ os. go (on_store (with_objects os) w1))) (λ z hz at2 rest2.
-      stores S γ σ span w1 (s0 + 40) z part.to part.cell q v c (spare γ (s0 + 48) (s0 + 40 + 8) w1 z (omega arith) hz) at2 (rest2 part.cell refl ∙ at) go
-      (λ os u hu alike. f (on_store (with_objects os) w1) u hu (λ k nc nt. alike k ∙ rest2 k nt ∙ rest k nc))))
+      let last : NodesT ℕ = Do (StoreO part.to part.cell) c in
+      cell_first σ s0 n zero part.from (Ptr o i) q w x (Do (ConstO part.one 1) (Do (StepO part.to b part.one) last)) h ef go (λ v y hy at rest.
+      let r : σ.R = asked σ.stop span w1 (write w.store.objects q v) (λ os. go (on_store (with_objects os) w1)) in
+      sets S σ.T γ (s0 + 48) w1 y part.one (Num 1) (ConstO part.one 1) (Do (StepO part.to b part.one) last) (spare γ (s0 + 56) (s0 + 48 + 8) w1 y (omega arith) hy) (low_free γ part.one (omega arith)) refl r (λ e he at1 rest1.
+      sets S σ.T γ (s0 + 40) w1 e part.to q (StepO part.to b part.one) last (spare γ (s0 + 48) (s0 + 40 + 8) w1 e (omega arith) he) (low_free γ part.to (omega arith))
+      (ap (λ u. to temporaries part.to u (spent 8 (mk w1 e))) (step_eq (Ptr d j) (Num 1) (e.temps b) (e.temps part.one) (rest1 b (eqb_more b part.one (omega (arith, le))) ∙ rest b (eqb_more b part.cell (omega (arith, le))) ∙ eb) at1)) r (λ z hz at2 rest2.
+      stores S γ σ span w1 (s0 + 32) z part.to part.cell q v c (spare γ (s0 + 40) (s0 + 32 + 8) w1 z (omega arith) hz) at2 (rest2 part.cell refl ∙ rest1 part.cell refl ∙ at) go
+      (λ os u hu alike. f (on_store (with_objects os) w1) u hu (λ k nc nt no. alike k ∙ rest2 k nt ∙ rest1 k no ∙ rest k nc)))))
 
   -- ---- the turn that is asked for between two words
 
@@ -312,24 +314,32 @@ module _ (S : Site) (γ : Goal) (span : Span) (cost : ℕ) (some : 1 ≤ cost) w
       ap (λ d. then_next (turn_done (then_next (choose (word_tested d) (mk w (paid (paid y))) (M S asking_steps) (M S Stop)) (M S Stop)) (S.prev' (Loop asking Stop))) (M S c)) at
       ∙ ap (λ p. then_next (p (Loop asking Stop) (mk w (asked_side y))) (M S c)) S.is_below
 
-  pub turn_asked : (σ : Way γ) (s0 : ℕ) (w : World) (x : Side) (c : NodesT ℕ) → Now γ (s0 + 56) w x → (turn : ℕ → World → Went) (go : World → σ.R) → ((m : ℕ) (y : Side) → Now γ s0 w y → Rest part.count x y → σ.T (then_went σ.stop (turn m w) go) (M S c (mk w y)))
-      → σ.T (then_went σ.stop (next_turn (suc zero) S.bound w turn) go) (M S (coded part.asked c) (mk w x))
-  turn_asked σ s0 w x c h turn go f =
-      let r : σ.R = then_went σ.stop (next_turn (suc zero) S.bound w turn) go in
-      sets S σ.T γ (s0 + 48) w x part.count (Num 1) (ConstO part.count 1) (Loop asking c) (spare γ (s0 + 56) (s0 + 48 + 8) w x (omega arith) h) (low_free γ part.count (omega arith)) refl r (λ y hy at rest.
-      subst (σ.T r) (sym (asked_is w y c at)) (by y rest (set_now γ (s0 + 24) w (paid (paid y)) part.count (Num 0) (low_free γ part.count (omega arith)) (twice (s0 + 24 + 8) w y (spare γ (s0 + 48) (s0 + 24 + 8 + 16) w y (omega arith) hy))) S.bound))
+  -- where a cell is left
+  pub turn_goes : (σ : Way γ) (s0 : ℕ) (w : World) (x : Side) (c : NodesT ℕ) → Now γ (s0 + 48) w x → x.temps part.count ≡ Num 1 → (turn : ℕ → World → Went) (go : World → σ.R) → ((m : ℕ) (y : Side) → Now γ s0 w y → Rest part.count x y → σ.T (then_went σ.stop (turn m w) go) (M S c (mk w y)))
+      → σ.T (then_went σ.stop (next_turn (suc zero) S.bound w turn) go) (M S (Loop asking c) (mk w x))
+  turn_goes σ s0 w x c h at turn go f =
+      subst (σ.T (then_went σ.stop (next_turn (suc zero) S.bound w turn) go)) (sym (asked_is w x c at))
+      (by (set_now γ (s0 + 24) w (paid (paid x)) part.count (Num 0) (low_free γ part.count (omega arith)) (twice (s0 + 24 + 8) w x (spare γ (s0 + 48) (s0 + 24 + 8 + 16) w x (omega arith) h))) S.bound)
     where
       twice : (s : ℕ) (w : World) (y : Side) → Now γ (s + 16) w y → Now γ s w (paid (paid y))
       twice s w y hy = paid_now γ s w (paid y) (paid_now γ (s + 8) w y (spare γ (s + 16) (s + 8 + 8) w y (omega arith) hy))
 
-      by : (y : Side) → Rest part.count x y → Now γ (s0 + 24) w (set part.count (Num 0) (paid (paid y))) → (i : ℕ) → σ.T (then_went σ.stop (next_turn (suc zero) i w turn) go) (then_next (mid_below (L S) i (Loop asking Stop) (mk w (asked_side y))) (M S c))
-      by y rest hy zero = σ.stops OutOfBound w _ (stopped γ OutOfBound w (asked_side y) _ (fin_now γ (s0 + 16) w (asked_side y) (paid_now γ (s0 + 16) w (set part.count (Num 0) (paid (paid y))) (spare γ (s0 + 24) (s0 + 16 + 8) w (set part.count (Num 0) (paid (paid y))) (omega arith) hy))) refl)
-      by y rest hy (suc m) =
-          let z : Side = set part.count (Num 0) (paid (paid y)) in
-          f m (paid (paid (paid z))) (paid_now γ s0 w (paid (paid z)) (twice (s0 + 8) w z (spare γ (s0 + 24) (s0 + 8 + 16) w z (omega arith) hy))) (λ j ne. put_other y.temps part.count j (Num 0) ne ∙ rest j ne)
+      z : Side
+      z = set part.count (Num 0) (paid (paid x))
+
+      by : Now γ (s0 + 24) w z → (i : ℕ) → σ.T (then_went σ.stop (next_turn (suc zero) i w turn) go) (then_next (mid_below (L S) i (Loop asking Stop) (mk w (asked_side x))) (M S c))
+      by hz zero = σ.stops OutOfBound w _ (stopped γ OutOfBound w (asked_side x) _ (fin_now γ (s0 + 16) w (asked_side x) (paid_now γ (s0 + 16) w z (spare γ (s0 + 24) (s0 + 16 + 8) w z (omega arith) hz))) refl)
+      by hz (suc m) =
+          f m (paid (paid (paid z))) (paid_now γ s0 w (paid (paid z)) (twice (s0 + 8) w z (spare γ (s0 + 24) (s0 + 8 + 16) w z (omega arith) hz))) (λ j ne. put_other x.temps part.count j (Num 0) ne)
+
+  pub turn_asked : (σ : Way γ) (s0 : ℕ) (w : World) (x : Side) (c : NodesT ℕ) → Now γ (s0 + 56) w x → (turn : ℕ → World → Went) (go : World → σ.R) → ((m : ℕ) (y : Side) → Now γ s0 w y → Rest part.count x y → σ.T (then_went σ.stop (turn m w) go) (M S c (mk w y)))
+      → σ.T (then_went σ.stop (next_turn (suc zero) S.bound w turn) go) (M S (coded part.asked c) (mk w x))
+  turn_asked σ s0 w x c h turn go f =
+      sets S σ.T γ (s0 + 48) w x part.count (Num 1) (ConstO part.count 1) (Loop asking c) (spare γ (s0 + 56) (s0 + 48 + 8) w x (omega arith) h) (low_free γ part.count (omega arith)) refl (then_went σ.stop (next_turn (suc zero) S.bound w turn) go) (λ y hy at rest.
+      turn_goes σ s0 w y c hy at turn go (λ m z hz rest2. f m z hz (λ j ne. rest2 j ne ∙ rest j ne)))
 
   -- two words are copied
-  pub pair_copies : (σ : Way γ) (s0 a b : ℕ) (p q : Cell) (w : World) (x : Side) (c : NodesT ℕ) → Now γ (s0 + 24) w x → 3 ≤ a → 3 ≤ b → x.temps a ≡ p → x.temps b ≡ q → eqb b part.from ≡ false → (go : World → σ.R) → ((v : World) (y : Side) → Now γ (s0 + 40) v y → Others x y → σ.T (go v) (M S c (mk v y)))
+  pub pair_copies : (σ : Way γ) (s0 a b : ℕ) (p q : Cell) (w : World) (x : Side) (c : NodesT ℕ) → Now γ (s0 + 24) w x → 3 ≤ a → 3 ≤ b → x.temps a ≡ p → x.temps b ≡ q → eqb b part.from ≡ false → (go : World → σ.R) → ((v : World) (y : Side) → Now γ (s0 + 32) v y → Others x y → σ.T (go v) (M S c (mk v y)))
       → σ.T (then_went σ.stop (cells_set span cost S.bound (suc (suc zero)) (Some p) q w) go) (M S (coded (part.pair_copied a b) c) (mk w x))
   pair_copies σ s0 a b (Ptr o i) q w x c h la lb ea eb nb go f =
       cell_first σ (s0 + 24) S.bound (suc zero) a (Ptr o i) q w x (Do (StoreO b part.cell) (coded part.asked behind)) h ea go (λ v y hy at rest. first q v y (spare γ (s0 + 24 + 56) (s0 + 80) w1 y (omega arith) hy) at rest eb)
@@ -338,7 +348,7 @@ module _ (S : Site) (γ : Goal) (span : Span) (cost : ℕ) (some : 1 ≤ cost) w
       w1 = spend cost w
 
       second : NodesT ℕ
-      second = Do (LoadO part.cell part.from) (Do (StepO part.to b part.one) (Do (StoreO part.to part.cell) c))
+      second = Do (LoadO part.cell part.from) (Do (ConstO part.one 1) (Do (StepO part.to b part.one) (Do (StoreO part.to part.cell) c)))
 
       behind : NodesT ℕ
       behind = Do (ConstO part.one 1) (Do (StepO part.from a part.one) second)
@@ -355,8 +365,8 @@ module _ (S : Site) (γ : Goal) (span : Span) (cost : ℕ) (some : 1 ≤ cost) w
           sets S σ.T γ (s0 + 8) w2 t part.one (Num 1) (ConstO part.one 1) (Do (StepO part.from a part.one) second) (spare γ (s0 + 16) (s0 + 8 + 8) w2 t (omega arith) ht) (low_free γ part.one (omega arith)) refl r (λ e he at3 rest3.
           sets S σ.T γ s0 w2 e part.from (further (Ptr o i) 1) (StepO part.from a part.one) second (spare γ (s0 + 8) (s0 + 8) w2 e (omega arith) he) (low_free γ part.from (omega arith))
           (ap (λ u. to temporaries part.from u (spent 8 (mk w2 e))) (step_eq (Ptr o i) (Num 1) (e.temps a) (e.temps part.one) (rest3 a (eqb_more a part.one (omega (arith, la))) ∙ rest2 a (eqb_more a part.count (omega (arith, la))) ∙ alike a ∙ rest a (eqb_more a part.cell (omega (arith, la))) ∙ ea) at3)) r (λ g hg at4 rest4.
-          word_behind σ s0 m o _ b d j w2 g c hg lb (rest4 part.one refl ∙ at3) at4 (rest4 b nb ∙ rest3 b (eqb_more b part.one (omega (arith, lb))) ∙ rest2 b (eqb_more b part.count (omega (arith, lb))) ∙ alike b ∙ rest b (eqb_more b part.cell (omega (arith, lb))) ∙ eb) go
-          (λ v u hu others. f v u hu (λ k le. others k (eqb_more k part.cell (omega (arith, le))) (eqb_more k part.to (omega (arith, le))) ∙ rest4 k (eqb_more k part.from (omega (arith, le))) ∙ rest3 k (eqb_more k part.one (omega (arith, le))) ∙ rest2 k (eqb_more k part.count (omega (arith, le))) ∙ alike k ∙ rest k (eqb_more k part.cell (omega (arith, le)))))))))
+          word_behind σ s0 m o _ b d j w2 g c hg lb at4 (rest4 b nb ∙ rest3 b (eqb_more b part.one (omega (arith, lb))) ∙ rest2 b (eqb_more b part.count (omega (arith, lb))) ∙ alike b ∙ rest b (eqb_more b part.cell (omega (arith, lb))) ∙ eb) go
+          (λ v u hu others. f v u hu (λ k le. others k (eqb_more k part.cell (omega (arith, le))) (eqb_more k part.to (omega (arith, le))) (eqb_more k part.one (omega (arith, le))) ∙ rest4 k (eqb_more k part.from (omega (arith, le))) ∙ rest3 k (eqb_more k part.one (omega (arith, le))) ∙ rest2 k (eqb_more k part.count (omega (arith, le))) ∙ alike k ∙ rest k (eqb_more k part.cell (omega (arith, le)))))))))
       first Unwritten v y hy at rest eb = σ.stops (Stray span) w1 _ (M_grows S (Do (StoreO b part.cell) (coded part.asked behind)) (mk w1 y))
       first (Num k) v y hy at rest eb = σ.stops (Stray span) w1 _ (M_grows S (Do (StoreO b part.cell) (coded part.asked behind)) (mk w1 y))
       first Null v y hy at rest eb = σ.stops (Stray span) w1 _ (M_grows S (Do (StoreO b part.cell) (coded part.asked behind)) (mk w1 y))
@@ -372,7 +382,7 @@ module _ (S : Site) (γ : Goal) (span : Span) (cost : ℕ) (some : 1 ≤ cost) w
   copies_between σ s0 (suc zero) le a b p q w x c h la lb ea eb go f =
       word_copies σ (s0 + 32) S.bound a b p q w x c h (omega (arith, lb)) ea eb go (λ v y hy rest. f v y (spare γ (s0 + 32 + 48) (s0 + 16) v y (omega arith) hy) (λ j g. rest j (eqb_more j part.cell (omega (arith, g)))))
   copies_between σ s0 (suc (suc zero)) le a b p q w x c h la lb ea eb go f =
-      pair_copies σ (s0 + 8) a b p q w x c (spare γ (s0 + 32) (s0 + 8 + 24) w x (omega arith) h) (omega (arith, la)) (omega (arith, lb)) ea eb (eqb_more b part.from (omega (arith, lb))) go (λ v y hy others. f v y (spare γ (s0 + 8 + 40) (s0 + 16) v y (omega arith) hy) others)
+      pair_copies σ (s0 + 8) a b p q w x c (spare γ (s0 + 32) (s0 + 8 + 24) w x (omega arith) h) (omega (arith, la)) (omega (arith, lb)) ea eb (eqb_more b part.from (omega (arith, lb))) go (λ v y hy others. f v y (spare γ (s0 + 8 + 32) (s0 + 16) v y (omega arith) hy) others)
   copies_between σ s0 (suc (suc (suc left))) le a b p q w x c h la lb ea eb go f =
       let size : ℕ = suc (suc (suc left)) in
       let r : σ.R = then_went σ.stop (cells_set span cost S.bound size (Some p) q w) go in
@@ -386,7 +396,7 @@ module _ (S : Site) (γ : Goal) (span : Span) (cost : ℕ) (some : 1 ≤ cost) w
   copies_on σ s0 (suc zero) le a p q w x c h la ea et go f =
       word_copies σ (s0 + 24) S.bound a part.to p q w x c h (omega arith) ea et go (λ v y hy rest. f v y (spare γ (s0 + 24 + 48) (s0 + 16) v y (omega arith) hy) (λ j g. rest j (eqb_more j part.cell (omega (arith, g)))))
   copies_on σ s0 (suc (suc zero)) le a p q w x c h la ea et go f =
-      pair_copies σ s0 a part.to p q w x c h (omega (arith, la)) (omega arith) ea et refl go (λ v y hy others. f v y (spare γ (s0 + 40) (s0 + 16) v y (omega arith) hy) others)
+      pair_copies σ s0 a part.to p q w x c h (omega (arith, la)) (omega arith) ea et refl go (λ v y hy others. f v y (spare γ (s0 + 32) (s0 + 16) v y (omega arith) hy) others)
   copies_on σ s0 (suc (suc (suc left))) le a p q w x c h la ea et go f =
       let size : ℕ = suc (suc (suc left)) in
       let r : σ.R = then_went σ.stop (cells_set span cost S.bound size (Some p) q w) go in

@@ -12,7 +12,7 @@ use Rattle.v32_isa.specs.declared.instruction.Two.TheVariants.{IEQ, INE, IGT, IG
 use Rattle.mid_code.specs.Code.{OpT, ConstO, NullO, MoveO, OneO, TwoO, LocalO, StepO, ApartO, PtrTestO, LoadO, StoreO, FreshO, NodesT, Stop, Do, Call, Choose, Block, Loop, Leave, Again, Return, CodeT, uses, target, maybe}
 use Rattle.mid_code.specs.Invariants.{IsOne, IsTest, IsOp, IsCall, IsLoop, AreNodes, AllOf, Names}
 use Rattle.lower_trees.specs.Shape.{Shape, words}
-use Rattle.lower_trees.specs.Pieces.{Nodes, coded}
+use Rattle.lower_trees.specs.Pieces.{Nodes, coded, LoopP}
 use Rattle.lower_trees.specs.Parts.{count, one, cell, from, to, other, ask_turn, asked, word_copied, pair_copied, copied_between, copied_on, local_filled, copy_turn, zero_turn, copied, zeroed, moved_by, structure_read, as_flag, converted, stored, with_word, stepped, with_pointer, operated_on, operated, one_more, one_less, tested_as, negated_as, made}
 
 -- a function of a program: its locals and its temporaries, which are sixteen at least
@@ -140,8 +140,17 @@ ask_turn_good s ls =
     let f = λ (k : ℕ) (lt : k < 16). fixed s k lt in
     alone (choose_kept count (f 0 (omega arith)) (alone (both (k_const count 0 (f 0 (omega arith)) (omega arith)) (again_kept {s = s} {ls = true ∷ ls} 0 refl))) (good_stop s (true ∷ ls)))
 
+asking_kept : {ls : List Bool} (s : Site) → Keeps s ls (coded (LoopP ask_turn))
+asking_kept {ls} s = loop_kept (ask_turn_good s ls)
+
 asked_kept : {ls : List Bool} (s : Site) → Keeps s ls (coded asked)
-asked_kept {ls} s = both (k_const count 1 (fixed s 0 (omega arith)) (omega arith)) (loop_kept (ask_turn_good s ls))
+asked_kept s = both (k_const count 1 (fixed s 0 (omega arith)) (omega arith)) (asking_kept s)
+
+second_kept : {ls : List Bool} (s : Site) (q : ℕ) → q < s.temps → Keeps s ls (λ c. Do (LoadO cell from) (Do (ConstO one 1) (Do (StepO to q one) (Do (StoreO to cell) c))))
+second_kept s q lq =
+    let f = λ (k : ℕ) (lt : k < 16). fixed s k lt in
+    both (k_load cell from (f 2 (omega arith)) (f 3 (omega arith))) (both (k_const one 1 (f 1 (omega arith)) (omega arith))
+    (both (k_step to q one (f 4 (omega arith)) lq (f 1 (omega arith))) (k_store to cell (f 4 (omega arith)) (f 2 (omega arith)))))
 
 word_kept : {ls : List Bool} (s : Site) (p q : ℕ) → p < s.temps → q < s.temps → Keeps s ls (coded (word_copied p q))
 word_kept s p q lp lq = both (k_load cell p (fixed s 2 (omega arith)) lp) (k_store q cell lq (fixed s 2 (omega arith)))
@@ -150,8 +159,7 @@ pair_kept : {ls : List Bool} (s : Site) (p q : ℕ) → p < s.temps → q < s.te
 pair_kept s p q lp lq =
     let f = λ (k : ℕ) (lt : k < 16). fixed s k lt in
     both (word_kept s p q lp lq) (both (asked_kept s) (both (k_const one 1 (f 1 (omega arith)) (omega arith))
-    (both (k_step from p one (f 3 (omega arith)) lp (f 1 (omega arith))) (both (k_load cell from (f 2 (omega arith)) (f 3 (omega arith)))
-    (both (k_step to q one (f 4 (omega arith)) lq (f 1 (omega arith))) (k_store to cell (f 4 (omega arith)) (f 2 (omega arith))))))))
+    (both (k_step from p one (f 3 (omega arith)) lp (f 1 (omega arith))) (second_kept s q lq))))
 
 pub between_kept : {ls : List Bool} (s : Site) (size p q : ℕ) → size < 2 ^ 32 → p < s.temps → q < s.temps → Keeps s ls (coded (copied_between size p q))
 between_kept s zero p q small lp lq = none
@@ -185,9 +193,8 @@ local_kept s zero k t small lk lt = k_local t k lt lk
 local_kept s (suc zero) k t small lk lt = both (k_load cell t (fixed s 2 (omega arith)) lt) (both (k_local t k lt lk) (k_store t cell lt (fixed s 2 (omega arith))))
 local_kept s (suc (suc zero)) k t small lk lt =
     let f = λ (k : ℕ) (lt : k < 16). fixed s k lt in
-    both (k_load cell t (f 2 (omega arith)) lt) (both (k_const one 1 (f 1 (omega arith)) (omega arith)) (both (k_step from t one (f 3 (omega arith)) lt (f 1 (omega arith)))
-    (both (k_local t k lt lk) (both (k_store t cell lt (f 2 (omega arith))) (both (asked_kept s) (both (k_load cell from (f 2 (omega arith)) (f 3 (omega arith)))
-    (both (k_step to t one (f 4 (omega arith)) lt (f 1 (omega arith))) (k_store to cell (f 4 (omega arith)) (f 2 (omega arith))))))))))
+    both (k_load cell t (f 2 (omega arith)) lt) (both (k_const count 1 (f 0 (omega arith)) (omega arith)) (both (k_step from t count (f 3 (omega arith)) lt (f 0 (omega arith)))
+    (both (k_local t k lt lk) (both (k_store t cell lt (f 2 (omega arith))) (both (asking_kept s) (second_kept s t lt))))))
 local_kept s (suc (suc (suc left))) k t small lk lt =
     both (k_move from t (fixed s 3 (omega arith)) lt) (both (k_local to k (fixed s 4 (omega arith)) lk) (both (copied_kept s (suc (suc (suc left))) small) (k_local t k lt lk)))
 

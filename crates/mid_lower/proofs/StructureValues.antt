@@ -12,7 +12,7 @@ use Rattle.obj_mem.specs.Worlds.{World, on_store, spend}
 use Rattle.c_meaning.specs.declared.end.End.TheVariants.{Stray}
 use Rattle.c_meaning.specs.Cells.{cells_set}
 use Rattle.c_meaning.specs.Outcomes.{Went, asked, then_went}
-use Rattle.mid_code.specs.Code.{FreshO, ConstO, MoveO, LocalO, StepO, LoadO, StoreO, NodesT, Do}
+use Rattle.mid_code.specs.Code.{FreshO, ConstO, MoveO, LocalO, StepO, LoadO, StoreO, NodesT, Stop, Do, Loop}
 use Rattle.mid_code.specs.Meaning.{Res}
 use Rattle.mid_code.specs.States.{temporaries, sizes_of, to, spent}
 use Rattle.lower_trees.specs.Pieces.{coded}
@@ -24,7 +24,7 @@ use Rattle.mid_lower.proofs.Fits.{Site}
 use Rattle.mid_lower.proofs.Following.{Side, mk, base_of, Goal, Fit, stays_here, Now, Way, Free, Rest, spare, kept_wider, low_free, eqb_less, eqb_more, M, M_grows, sets}
 use Rattle.mid_lower.proofs.Instructions.{step_eq}
 use Rattle.mid_lower.proofs.Storing.{stores}
-use Rattle.mid_lower.proofs.CellLoops.{copies, Turns, cell_first, word_behind, turn_asked}
+use Rattle.mid_lower.proofs.CellLoops.{copies, Turns, cell_first, word_behind, turn_goes}
 
 -- ---- locals behind the function's own
 
@@ -176,32 +176,31 @@ module _ (S : Site) where
     two_copied (Ptr o j) ep go f =
         cell_first S γ1 span 1 (omega arith) σ1 (s + 52) S.bound (suc zero) t (Ptr o j) value_at w1 x1 behind h1 ep go (λ v y hy at rest.
         let r : σ.R = asked σ.stop span w2 (write w1.store.objects value_at v) (λ os. turns (on_store (with_objects os) w2)) in
-        sets S σ.T γ1 (s + 100) w2 y part.one (Num 1) (ConstO part.one 1) (Do (StepO part.from t part.one) (Do (LocalO t k) (Do (StoreO t part.cell) later))) (spare γ1 (s + 52 + 56) (s + 100 + 8) w2 y (omega arith) hy) (low_free γ1 part.one (omega arith)) refl r (λ z hz ez rest2.
-        sets S σ.T γ1 (s + 92) w2 z part.from (further (Ptr o j) 1) (StepO part.from t part.one) (Do (LocalO t k) (Do (StoreO t part.cell) later)) (spare γ1 (s + 100) (s + 92 + 8) w2 z (omega arith) hz) (low_free γ1 part.from (omega arith))
-        (ap (λ u. to temporaries part.from u (spent 8 (mk w2 z))) (step_eq (Ptr o j) (Num 1) (z.temps t) (z.temps part.one) (rest2 t (eqb_more t part.one (omega (arith, six))) ∙ rest t (eqb_more t part.cell (omega (arith, six))) ∙ ep) ez)) r (λ b hb eb rest3.
+        sets S σ.T γ1 (s + 100) w2 y part.count (Num 1) (ConstO part.count 1) (Do (StepO part.from t part.count) (Do (LocalO t k) (Do (StoreO t part.cell) later))) (spare γ1 (s + 52 + 56) (s + 100 + 8) w2 y (omega arith) hy) (low_free γ1 part.count (omega arith)) refl r (λ z hz ez rest2.
+        sets S σ.T γ1 (s + 92) w2 z part.from (further (Ptr o j) 1) (StepO part.from t part.count) (Do (LocalO t k) (Do (StoreO t part.cell) later)) (spare γ1 (s + 100) (s + 92 + 8) w2 z (omega arith) hz) (low_free γ1 part.from (omega arith))
+        (ap (λ u. to temporaries part.from u (spent 8 (mk w2 z))) (step_eq (Ptr o j) (Num 1) (z.temps t) (z.temps part.count) (rest2 t (eqb_more t part.count (omega (arith, six))) ∙ rest t (eqb_more t part.cell (omega (arith, six))) ∙ ep) ez)) r (λ b hb eb rest3.
         local_set σ.T (s + 84) w2 b (Do (StoreO t part.cell) later) (spare γ1 (s + 92) (s + 84 + 8) w2 b (omega arith) hb) r (λ d hd ed rest4.
         stores S γ1 σ1 span w2 (s + 76) d t part.cell value_at v later (spare γ1 (s + 84) (s + 76 + 8) w2 d (omega arith) hd) ed (rest4 part.cell (below_t part.cell (omega arith)) ∙ rest3 part.cell refl ∙ rest2 part.cell refl ∙ at) turns (λ os e he alike.
         let w3 : World = on_store (with_objects os) w2 in
-        turn_asked S γ1 span 1 (omega arith) σ1 (s + 20) w3 e last (spare γ1 (s + 76) (s + 20 + 56) w3 e (omega arith) he) turn go (λ m g hg rest5.
-        word_behind S γ1 span 1 (omega arith) σ1 (s + 20) m o ((j + 1) % 2 ^ 32) t (length w.store.objects) 0 w3 g c hg (omega (arith, six))
-        (rest5 part.one refl ∙ alike part.one ∙ rest4 part.one (below_t part.one (omega arith)) ∙ rest3 part.one refl ∙ ez)
+        turn_goes S γ1 span 1 (omega arith) σ1 (s + 28) w3 e last (spare γ1 (s + 76) (s + 28 + 48) w3 e (omega arith) he) (alike part.count ∙ rest4 part.count (below_t part.count (omega arith)) ∙ rest3 part.count refl ∙ ez) turn go (λ m g hg rest5.
+        word_behind S γ1 span 1 (omega arith) σ1 (s + 28) m o ((j + 1) % 2 ^ 32) t (length w.store.objects) 0 w3 g c hg (omega (arith, six))
         (rest5 part.from refl ∙ alike part.from ∙ rest4 part.from (below_t part.from (omega arith)) ∙ eb)
         (rest5 t (eqb_more t part.count (omega (arith, six))) ∙ alike t ∙ ed) go (λ v2 u hu others.
-        f v2 u (spare γ1 (s + 20 + 40) (s + 28) v2 u (omega arith) hu)
-        (others t (eqb_more t part.cell (omega (arith, six))) (eqb_more t part.to (omega (arith, six))) ∙ rest5 t (eqb_more t part.count (omega (arith, six))) ∙ alike t ∙ ed)
-        (λ k five ne. others k (eqb_more k part.cell (omega (arith, five))) (eqb_more k part.to (omega (arith, five))) ∙ rest5 k (eqb_more k part.count (omega (arith, five))) ∙ alike k ∙ rest4 k ne ∙ rest3 k (eqb_more k part.from (omega (arith, five))) ∙ rest2 k (eqb_more k part.one (omega (arith, five))) ∙ rest k (eqb_more k part.cell (omega (arith, five)))))))))))
+        f v2 u (spare γ1 (s + 28 + 32) (s + 28) v2 u (omega arith) hu)
+        (others t (eqb_more t part.cell (omega (arith, six))) (eqb_more t part.to (omega (arith, six))) (eqb_more t part.one (omega (arith, six))) ∙ rest5 t (eqb_more t part.count (omega (arith, six))) ∙ alike t ∙ ed)
+        (λ k five ne. others k (eqb_more k part.cell (omega (arith, five))) (eqb_more k part.to (omega (arith, five))) (eqb_more k part.one (omega (arith, five))) ∙ rest5 k (eqb_more k part.count (omega (arith, five))) ∙ alike k ∙ rest4 k ne ∙ rest3 k (eqb_more k part.from (omega (arith, five))) ∙ rest2 k (eqb_more k part.count (omega (arith, five))) ∙ rest k (eqb_more k part.cell (omega (arith, five)))))))))))
       where
         w2 : World
         w2 = spend 1 w1
 
         last : NodesT ℕ
-        last = Do (LoadO part.cell part.from) (Do (StepO part.to t part.one) (Do (StoreO part.to part.cell) c))
+        last = Do (LoadO part.cell part.from) (Do (ConstO part.one 1) (Do (StepO part.to t part.one) (Do (StoreO part.to part.cell) c)))
 
         later : NodesT ℕ
-        later = coded part.asked last
+        later = Loop (coded part.ask_turn Stop) last
 
         behind : NodesT ℕ
-        behind = Do (ConstO part.one 1) (Do (StepO part.from t part.one) (Do (LocalO t k) (Do (StoreO t part.cell) later)))
+        behind = Do (ConstO part.count 1) (Do (StepO part.from t part.count) (Do (LocalO t k) (Do (StoreO t part.cell) later)))
 
         turn : ℕ → World → Went
         turn m v = cells_set span 1 m (suc zero) (Some (further (Ptr o j) 1)) (further value_at 1) v

@@ -14,8 +14,8 @@ use Rattle.c_types.specs.Kinds.{is_structure, decayed, pointed, is_pointer}
 use Rattle.mid_code.specs.Paths.{Point, at}
 use Rattle.lower_trees.specs.Shape.{Shape, words, params_of, result_of}
 use Rattle.lower_trees.specs.Flags.{is_flag}
-use Rattle.lower_trees.specs.Pieces.{Nodes, coded}
-use Rattle.lower_trees.specs.Parts.{asked, copied, copied_between, copied_on, local_filled, zeroed, structure_read, as_flag, converted, stored, with_word, stepped, with_pointer, operated_on, operated, one_more, one_less, tested_as, negated_as}
+use Rattle.lower_trees.specs.Pieces.{Nodes, coded, LoopP}
+use Rattle.lower_trees.specs.Parts.{ask_turn, asked, copied, copied_between, copied_on, local_filled, zeroed, structure_read, as_flag, converted, stored, with_word, stepped, with_pointer, operated_on, operated, one_more, one_less, tested_as, negated_as}
 use Rattle.lower_trees.specs.Expressions.{Low, read, value_of, value, test, unary, second, beyond, size_at, binary, behind_place, assign, step_made, stepped_to, step_taken, index, member_of, called, spots, converted_to, later_types, low, low_args, low_value, low_test, counts_up}
 use Rattle.lower_trees.specs.Counts.{sizes, sizes_all}
 use Rattle.mid_lower.proofs.TogetherPaths.{Frames, Leads, doing, calling, first_way, second_way, into_loop, way_ends, loop_ends}
@@ -27,25 +27,28 @@ copied_leads zero c fs q l = l
 copied_leads (suc left) c fs q l = doing tt (doing tt (into_loop (doing tt (doing tt (doing tt (second_way (way_ends (loop_ends l))))))))
 
 -- a further turn is asked for
+asking_leads : (c : Nodes) (fs : Frames) (q : Point ℕ) → Leads (at fs c) q → Leads (at fs (coded (LoopP ask_turn) c)) q
+asking_leads c fs q l = into_loop (second_way (way_ends (loop_ends l)))
+
 asked_leads : (c : Nodes) (fs : Frames) (q : Point ℕ) → Leads (at fs c) q → Leads (at fs (coded asked c)) q
-asked_leads c fs q l = doing tt (into_loop (second_way (way_ends (loop_ends l))))
+asked_leads c fs q l = doing tt (asking_leads c fs q l)
 
 pub between_leads : (size p q : ℕ) (c : Nodes) (fs : Frames) (g : Point ℕ) → Leads (at fs c) g → Leads (at fs (coded (copied_between size p q) c)) g
 between_leads zero p q c fs g l = l
 between_leads (suc zero) p q c fs g l = doing tt (doing tt l)
-between_leads (suc (suc zero)) p q c fs g l = doing tt (doing tt (asked_leads _ fs g (doing tt (doing tt (doing tt (doing tt (doing tt l)))))))
+between_leads (suc (suc zero)) p q c fs g l = doing tt (doing tt (asked_leads _ fs g (doing tt (doing tt (doing tt (doing tt (doing tt (doing tt l))))))))
 between_leads (suc (suc (suc left))) p q c fs g l = doing tt (doing tt (copied_leads (suc (suc (suc left))) c fs g l))
 
 pub copied_on_leads : (size p : ℕ) (c : Nodes) (fs : Frames) (g : Point ℕ) → Leads (at fs c) g → Leads (at fs (coded (copied_on size p) c)) g
 copied_on_leads zero p c fs g l = l
 copied_on_leads (suc zero) p c fs g l = doing tt (doing tt l)
-copied_on_leads (suc (suc zero)) p c fs g l = doing tt (doing tt (asked_leads _ fs g (doing tt (doing tt (doing tt (doing tt (doing tt l)))))))
+copied_on_leads (suc (suc zero)) p c fs g l = doing tt (doing tt (asked_leads _ fs g (doing tt (doing tt (doing tt (doing tt (doing tt (doing tt l))))))))
 copied_on_leads (suc (suc (suc left))) p c fs g l = doing tt (copied_leads (suc (suc (suc left))) c fs g l)
 
 local_leads : (size local t : ℕ) (c : Nodes) (fs : Frames) (g : Point ℕ) → Leads (at fs c) g → Leads (at fs (coded (local_filled size local t) c)) g
 local_leads zero local t c fs g l = doing tt l
 local_leads (suc zero) local t c fs g l = doing tt (doing tt (doing tt l))
-local_leads (suc (suc zero)) local t c fs g l = doing tt (doing tt (doing tt (doing tt (doing tt (asked_leads _ fs g (doing tt (doing tt (doing tt l))))))))
+local_leads (suc (suc zero)) local t c fs g l = doing tt (doing tt (doing tt (doing tt (doing tt (asking_leads _ fs g (doing tt (doing tt (doing tt (doing tt l)))))))))
 local_leads (suc (suc (suc left))) local t c fs g l = doing tt (doing tt (copied_leads (suc (suc (suc left))) _ fs g (doing tt l)))
 
 pub zeroed_leads : (size : ℕ) (c : Nodes) (fs : Frames) (q : Point ℕ) → Leads (at fs c) q → Leads (at fs (coded (zeroed size) c)) q

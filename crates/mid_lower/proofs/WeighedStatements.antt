@@ -36,10 +36,10 @@ cell_weighs : (p offset : ℕ) → weigh (listing (cell_filled p offset)) ≤ 24
 cell_weighs p zero = omega arith
 cell_weighs p (suc offset) = omega arith
 
-filled_weighs : (h : Shape) (ty : Ty) (p offset : ℕ) → weigh (listing (part_filled h ty p offset)) ≤ 112
+filled_weighs : (h : Shape) (ty : Ty) (p offset : ℕ) → weigh (listing (part_filled h ty p offset)) ≤ 120
 filled_weighs h ty p offset = by (is_structure ty)
   where
-    by : (b : Bool) → weigh (if b then listing (part_at p offset) ++ listing (copied_on (words h ty) item) else listing (cell_filled p offset)) ≤ 112
+    by : (b : Bool) → weigh (if b then listing (part_at p offset) ++ listing (copied_on (words h ty) item) else listing (cell_filled p offset)) ≤ 120
     by true =
         let e = both (listing (part_at p offset)) (listing (copied_on (words h ty) item)) in
         let f = at_weighs p offset in
@@ -112,10 +112,10 @@ jump_weighs : (j : Jump) → weigh (listing (jump j)) ≤ 8
 jump_weighs (ToEnd k) = omega arith
 jump_weighs (ToTurn k) = omega arith
 
-returned_weighs : (h : Shape) (ty : Ty) (t : ℕ) → weigh (listing (returned h ty t)) ≤ 104
+returned_weighs : (h : Shape) (ty : Ty) (t : ℕ) → weigh (listing (returned h ty t)) ≤ 112
 returned_weighs h ty t = by (is_structure ty)
   where
-    by : (b : Bool) → weigh (if b then listing (copied_between (words h ty) t result_at) ++ (ReturnN None ∷ []) else ReturnN (Some t) ∷ []) ≤ 104
+    by : (b : Bool) → weigh (if b then listing (copied_between (words h ty) t result_at) ++ (ReturnN None ∷ []) else ReturnN (Some t) ∷ []) ≤ 112
     by true =
         let e = both (listing (copied_between (words h ty) t result_at)) (ReturnN None ∷ []) in
         let f = between_weighs (words h ty) t result_at in
@@ -258,14 +258,14 @@ mutual
 
 -- ---- functions
 
-received_weighs : (h : Shape) (ty : Ty) (k a : ℕ) → weigh (listing (received h ty k a)) ≤ 104
+received_weighs : (h : Shape) (ty : Ty) (k a : ℕ) → weigh (listing (received h ty k a)) ≤ 112
 received_weighs h ty k a = by (is_structure ty)
   where
-    by : (b : Bool) → weigh (if b then (DoN (o.Local to k) ∷ []) ++ listing (copied_on (words h ty) a) else DoN (o.Local (param_at k) k) ∷ DoN (o.Store (param_at k) a) ∷ []) ≤ 104
+    by : (b : Bool) → weigh (if b then (DoN (o.Local to k) ∷ []) ++ listing (copied_on (words h ty) a) else DoN (o.Local (param_at k) k) ∷ DoN (o.Store (param_at k) a) ∷ []) ≤ 112
     by true = let e = both (DoN (o.Local to k) ∷ []) (listing (copied_on (words h ty) a)) in let f = copied_on_weighs (words h ty) a in omega (arith, e, f)
     by false = omega arith
 
-params_weigh : (h : Shape) (tys : List Ty) (k a : ℕ) → weigh (listing (all_received h tys k a)) ≤ 104 * length tys
+params_weigh : (h : Shape) (tys : List Ty) (k a : ℕ) → weigh (listing (all_received h tys k a)) ≤ 112 * length tys
 params_weigh h [] k a = omega arith
 params_weigh h (ty ∷ tys) k a =
     let e = both (listing (received h ty k a)) (listing (all_received h tys (k + 1) (a + 1))) in

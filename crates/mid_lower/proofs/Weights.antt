@@ -71,13 +71,13 @@ pub copied_weighs : (size : ℕ) → weigh (listing (copied size)) ≤ 80
 copied_weighs zero = omega arith
 copied_weighs (suc left) = omega arith
 
-pub between_weighs : (size p q : ℕ) → weigh (listing (copied_between size p q)) ≤ 96
+pub between_weighs : (size p q : ℕ) → weigh (listing (copied_between size p q)) ≤ 104
 between_weighs zero p q = omega arith
 between_weighs (suc zero) p q = omega arith
 between_weighs (suc (suc zero)) p q = omega arith
 between_weighs (suc (suc (suc left))) p q = omega arith
 
-pub copied_on_weighs : (size p : ℕ) → weigh (listing (copied_on size p)) ≤ 96
+pub copied_on_weighs : (size p : ℕ) → weigh (listing (copied_on size p)) ≤ 104
 copied_on_weighs zero p = omega arith
 copied_on_weighs (suc zero) p = omega arith
 copied_on_weighs (suc (suc zero)) p = omega arith
@@ -106,7 +106,7 @@ converted_weighs (UnionY k) known t = omega arith
 converted_weighs (PointerY to) known t = omega arith
 converted_weighs (ArrayY of len) known t = omega arith
 
-pub stored_weighs : (h : Shape) (ty : Ty) (p a : ℕ) → weigh (listing (stored h ty p a)) ≤ 96
+pub stored_weighs : (h : Shape) (ty : Ty) (p a : ℕ) → weigh (listing (stored h ty p a)) ≤ 104
 stored_weighs h VoidY p a = omega arith
 stored_weighs h IntY p a = omega arith
 stored_weighs h BoolY p a = omega arith

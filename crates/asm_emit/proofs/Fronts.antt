@@ -19,7 +19,7 @@ use Rattle.asm_laws.specs.declared.made.Made.{Made}
 use Rattle.asm_laws.specs.Spare.{operand}
 use Rattle.asm_laws.specs.Accesses.{accessed}
 use Rattle.asm_laws.specs.Operations.{Frame, Whole, word_put, is_spared, with_known, with_next, with_access, in_one, put_items, puts_items, given_first, made_both, made_known, made_with, first_made, made_of, made_or}
-use Rattle.asm_emit.specs.inner.Listed.{led_asked, front_put, front_summed, front_one, ahead_items, ahead_more, is_call, op_made, more_ahead, front_items, front_more, labels_due, led_ahead, led_behind, put_here, left_behind, puts_from, put_first, left_after, list_puts}
+use Rattle.asm_emit.specs.inner.Listed.{led_asked, front_summed, front_one, ahead_items, ahead_more, is_call, op_made, more_ahead, front_items, front_more, labels_due, led_ahead, led_behind, put_here, left_behind, puts_from, put_first, left_after, list_puts}
 
 pub none_due : (k : Option ℕ) → labels_due k 0 ≡ 0
 none_due None = refl

@@ -1,17 +1,17 @@
 -- The operations that an access at an address that nothing else asks for is done together with.
-use Rattle.std.proofs.Common.{◌≡◌, ℕ, zero, suc, Bool, true, false, cond, List, Option, Some, None, refl, sym, ap, ◌∙◌, subst}
+use Rattle.std.proofs.Common.{◌≡◌, ℕ, Bool, true, false, cond, List, Option, Some, None, refl, sym, ap, subst}
 use Rattle.std.specs.Prelude.{◌==◌, ◌&&◌, not, nat_lt}
 use Rattle.std.proofs.lemmas.Bool.{eqb-true}
 use Rattle.mid_code.specs.declared.placed.Where.{Where}
 use Rattle.mid_code.specs.declared.placed.Where.TheVariants.{Reg, Slot}
-use Rattle.mid_code.specs.Code.{NodesT, Stop, Do, Call, Choose, Block, Loop, Leave, Again, Return, OpT, ConstO, NullO, MoveO, OneO, TwoO, GlobalO, LocalO, LiteralO, CardO, StepO, ApartO, PtrTestO, LoadO, StoreO, FreshO, EndO, InO, OutO, WaitO, HaltO}
+use Rattle.mid_code.specs.Code.{NodesT, Do, OpT, ConstO, LocalO, StepO, LoadO, StoreO}
 use Rattle.asm_laws.specs.declared.access.Base.{Base}
 use Rattle.asm_laws.specs.declared.access.Base.TheVariants.{Local, Place}
 use Rattle.asm_laws.specs.declared.access.Address.{Address}
 use Rattle.asm_laws.specs.declared.access.Transfer.{Transfer}
 use Rattle.asm_laws.specs.declared.access.Transfer.TheVariants.{Load, Store}
 use Rattle.asm_laws.specs.Live.{is_place}
-use Rattle.asm_laws.specs.Accesses.{are_left, load_there, store_there, takes_two, reached_by, reached, place_sum, place_behind, local_sum, local_step, local_number, local_behind, first_access, at_local, at_place, accessed}
+use Rattle.asm_laws.specs.Accesses.{are_left, load_there, store_there, takes_two, reached_by, reached, place_sum, place_behind, local_sum, local_step, local_number, local_behind, first_access, accessed}
 
 -- an operation that loads from the address in a register, or stores there
 abbrev pub Transfers : ℕ → OpT Where → Transfer → Type 0

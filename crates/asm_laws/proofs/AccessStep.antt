@@ -1,5 +1,5 @@
 -- A load or a store behind an instruction that brings a word out of a slot, where there is one, is followed by the machine.
-use Rattle.std.proofs.Common.{◌≡◌, ℕ, ◌+◌, ◌<◌, Bool, true, false, List, [], ◌∷◌, ◌++◌, Option, Some, None, refl, sym, ap, ◌∙◌, subst, arith}
+use Rattle.std.proofs.Common.{◌≡◌, ℕ, ◌<◌, false, List, [], ◌∷◌, ◌++◌, Some, refl, ap, ◌∙◌, subst, arith}
 use Rattle.std.specs.Prelude.{get_or}
 use Rattle.either.specs.declared.Either.TheVariants.{Left}
 use Rattle.kit_base.specs.Word.{add}

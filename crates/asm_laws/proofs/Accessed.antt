@@ -1,6 +1,6 @@
 -- The machine does an access at an address that nothing else asks for in one go with the operations that work it out, and holds what is live behind it.
-use Rattle.std.proofs.Common.{◌≡◌, ◌≢◌, ℕ, zero, suc, ◌+◌, ◌<◌, inl, inr, Bool, true, false, cond, List, [], ◌∷◌, ◌++◌, length, Option, Some, None, refl, sym, ap, ◌∙◌, subst, arith, append-nil}
-use Rattle.std.specs.Prelude.{◌==◌, ◌&&◌, ◌||◌, not, nat_lt, get_or}
+use Rattle.std.proofs.Common.{◌≡◌, ◌≢◌, ℕ, zero, suc, ◌<◌, inl, inr, Bool, true, false, List, [], ◌∷◌, ◌++◌, Option, Some, None, refl, sym, ap, ◌∙◌, subst, arith, append-nil}
+use Rattle.std.specs.Prelude.{◌==◌, ◌&&◌, ◌||◌, not}
 use Rattle.std.proofs.lemmas.Bool.{eqb-true, eqb-false, eq-eqb}
 use Rattle.kit_base.specs.Word.{add}
 use Rattle.v32_isa.specs.State as machine
@@ -8,7 +8,7 @@ use Rattle.v32_isa.specs.State.{written}
 use Rattle.v32_isa.specs.Runs as runs
 use Rattle.v32_isa.proofs.Steps.{Reaches, reaches_here, nested_none}
 use Rattle.asm_items.specs.declared.item.AsmItem.TheVariants as item
-use Rattle.obj_mem.specs.Runs.{Ending, Halted, Fault, Starved, Stray, Deep, OutOfBound}
+use Rattle.obj_mem.specs.Runs.{Halted, Fault, Starved, Stray, Deep, OutOfBound}
 use Rattle.mid_code.specs.declared.placed.Where.{Where}
 use Rattle.mid_code.specs.declared.placed.Where.TheVariants.{Reg, Slot}
 use Rattle.mid_code.specs.Code.{NodesT, Stop, Do, Call, Choose, Block, Loop, Leave, Again, Return, OpT, ConstO, LocalO, StepO, LoadO, StoreO, uses}
@@ -23,17 +23,17 @@ use Rattle.asm_laws.specs.declared.access.Transfer.TheVariants.{Load, Store}
 use Rattle.asm_laws.specs.Live.{is_place, live_soon, ahead}
 use Rattle.asm_laws.specs.Accesses.{is_free, is_left, left_or_none, are_left, takes_two, accessed}
 use Rattle.asm_laws.specs.Spare.{Stays}
-use Rattle.asm_laws.specs.Operations.{Frame, before_it, access_item, one_or_more, more_of, with_access}
+use Rattle.asm_laws.specs.Operations.{Frame, before_it, access_item}
 use Rattle.asm_laws.specs.Standing.{Stand}
 use Rattle.asm_laws.specs.inner.Following.{Begin, begin, DidBy, did_then, front_acts}
 use Rattle.asm_laws.specs.Addresses.{Addr, Does, Console, readable, writable, word_of, local_address, store, put, having, Room, Good, loaded, saved, HasEnded, Held, Follows, does}
 use Rattle.asm_laws.specs.Addresses as words
-use Rattle.asm_laws.specs.Holds.{Setting, sizes, Named, Fits, Ctx}
+use Rattle.asm_laws.specs.Holds.{Setting, sizes, Fits, Ctx}
 use Rattle.asm_laws.specs.Acting.{Holds, DoesAs, Fitting, FrontFits}
 use Rattle.asm_laws.specs.Calling.{Mach, Like, lang, holder}
 use Rattle.asm_laws.proofs.Stepping.{same_or_not, written_same, written_other, took, kept, same_word}
 use Rattle.asm_laws.proofs.Hands.{with_reg}
-use Rattle.asm_laws.proofs.Alongside.{word_alike, written_alike}
+use Rattle.asm_laws.proofs.Alongside.{written_alike}
 use Rattle.asm_laws.proofs.Spared.{FrontStays}
 use Rattle.asm_laws.proofs.First.{good, room}
 use Rattle.asm_laws.proofs.Ops.{acts}
@@ -41,7 +41,7 @@ use Rattle.asm_laws.proofs.Parts.{stopped, passes_by, none_more}
 use Rattle.asm_laws.proofs.PutBack.{keeps}
 use Rattle.asm_laws.proofs.LiveParts.{behind_front}
 use Rattle.asm_laws.proofs.AccessForms.{Transfers, Told, local_one, place_two, local_three, accessed_case}
-use Rattle.asm_laws.proofs.AccessStep.{accessed_at, access_does, GoodBase, GoodTransfer, access_follows}
+use Rattle.asm_laws.proofs.AccessStep.{accessed_at, access_does, GoodBase, access_follows}
 
 both : (p q : Bool) → p && q ≡ true → (p ≡ true) × (q ≡ true)
 both true q e = (refl, e)

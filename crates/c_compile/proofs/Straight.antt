@@ -1,5 +1,5 @@
 -- No pass adds loops or calls to a function.
-use Rattle.std.proofs.Common.{◌≡◌, ℕ, ◌≤◌, List, [], ◌∷◌, arith}
+use Rattle.std.proofs.Common.{ℕ, List, [], ◌∷◌, arith}
 use Rattle.c_types.specs.Programs.{TFunctionT}
 use Rattle.c_meaning.specs.Setting.{Setting}
 use Rattle.mid_code.specs.declared.placed.Where.{Where}

@@ -1,10 +1,10 @@
 -- Loops that only ask, part by part.
-use Rattle.std.proofs.Common.{◌≡◌, ℕ, zero, suc, Bool, true, false, ◌&&◌, cond, eqb, List, [], ◌∷◌, Option, Some, None, refl, sym, ap, ◌∙◌, arith}
+use Rattle.std.proofs.Common.{◌≡◌, ℕ, zero, suc, Bool, true, false, ◌&&◌, cond, eqb, Some, None, refl, sym, ap, ◌∙◌, arith}
 use Rattle.mid_code.specs.declared.node.Op.{Op}
 use Rattle.mid_code.specs.declared.node.Op.TheVariants as op
 use Rattle.mid_code.specs.Functions.{NodeT, DoN, ChooseN, BlockN, LoopN, LeaveN, AgainN, ReturnN, ListT, NoN, MoreN}
 use Rattle.mid_replace.specs.inner.Replaced.{turns_once, asks_by}
-use Rattle.mid_replace.specs.inner.Loops.{is_nothing, is_again_node, is_again, is_zero_op, is_zero, asks_node, asking}
+use Rattle.mid_replace.specs.inner.Loops.{is_nothing, is_again, is_zero_op, is_zero, asks_node, asking}
 use Rattle.mid_replace.proofs.Tables.{both_0, both_1}
 
 and_no : (b : Bool) → false ≡ (b && false)

@@ -1,25 +1,23 @@
 -- Calls, and what the parts of the pass keep.
-use Rattle.std.proofs.Common.{◌≡◌, ℕ, suc, ◌+◌, ◌<◌, ◌⊎◌, inl, inr, Bool, true, false, cond, eqb, leb, List, [], ◌∷◌, ◌++◌, map, length, sum, Option, Some, None, refl, sym, ap, ◌∙◌, subst, arith, replicate}
+use Rattle.std.proofs.Common.{◌≡◌, ℕ, suc, ◌+◌, ◌<◌, ◌⊎◌, inl, inr, Bool, true, false, leb, List, [], ◌∷◌, map, length, sum, Option, Some, None, refl, sym, ap, ◌∙◌, subst, arith, replicate}
 use Rattle.obj_mem.specs.declared.cell.Cell.{Cell}
 use Rattle.obj_mem.specs.declared.cell.Cell.TheVariants.{Unwritten}
 use Rattle.obj_mem.specs.Objects.{object_at, cell_at, end_from}
 use Rattle.obj_mem.specs.Stores.{Sizes, local_object, has_room, returned_to, ram_words}
 use Rattle.obj_mem.specs.Worlds.{on_store}
-use Rattle.mid_code.specs.Code.{CodeT, maybe, uses, target}
+use Rattle.mid_code.specs.Code.{CodeT, maybe}
 use Rattle.mid_code.specs.Meaning.{Next, Lang, did}
-use Rattle.mid_code.specs.Live.{is_among}
 use Rattle.mid_code.specs.States.{State, temporaries, received, cell_of, word_tested, begun, if_room, back, over_worlds, sizes_of, function_at}
 use Rattle.mid_code.specs.inner.Passing.{acts, Pass, Like, CallAlike, DidAlike, TestAlike, Keeps}
 use Rattle.mid_code.specs.inner.Alike.{Known, AllKnown}
 use Rattle.mid_code.proofs.Values.{test_known}
 use Rattle.mid_code.proofs.More.{act_more, enter_more, back_more}
-use Rattle.mid_scalars.specs.inner.Named.{Name, Away, Here, name_at, IsHere, LocalKnown, Begun, count_of}
+use Rattle.mid_scalars.specs.inner.Named.{Away, Here, name_at, IsHere, LocalKnown, Begun}
 use Rattle.mid_scalars.proofs.Names.{name_split, end_length}
 use Rattle.mid_scalars.proofs.Growing.{later_away, later_here, later_known, inner, core_enter, as_before, core_back}
-use Rattle.mid_scalars.proofs.Working.{known_cond}
 use Rattle.mid_scalars.proofs.Promoted.{received_known, no_local, none_count, none_some}
-use Rattle.mid_replace.specs.inner.Facts.{Fact, Plain, Word, Place, Any, Plan, Weaker, IsPlain, with_target, Follows, replaced_op}
-use Rattle.mid_replace.specs.inner.Held.{Tells, Holds, Fits, Alive, Given, AllNamed, AllPlain, replacing}
+use Rattle.mid_replace.specs.inner.Facts.{Fact, Plain, Plan, with_target, Follows}
+use Rattle.mid_replace.specs.inner.Held.{Holds, Fits, Alive, Given, AllNamed, AllPlain, replacing}
 use Rattle.mid_replace.proofs.Spare.{Kept as KeptNames, tells_kept, tells_weaker, weaker_same}
 use Rattle.mid_replace.proofs.Working.{now_kept, timed, follow, set_alive}
 use Rattle.mid_replace.proofs.Each.{each, plain_known}

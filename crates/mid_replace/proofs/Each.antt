@@ -1,5 +1,5 @@
 -- Each operation keeps the states alike.
-use Rattle.std.proofs.Common.{◌≡◌, ℕ, zero, suc, ◌+◌, ◌<◌, ◌⊎◌, inl, inr, Bool, true, false, cond, eqb, ltb, List, [], ◌∷◌, ◌++◌, length, set, get_or, Option, Some, None, Ok, Err, refl, sym, ap, ◌∙◌, subst, arith}
+use Rattle.std.proofs.Common.{◌≡◌, ℕ, zero, suc, ◌+◌, ◌<◌, ◌⊎◌, inl, inr, Bool, true, false, cond, ltb, List, [], ◌∷◌, ◌++◌, length, set, get_or, Option, Some, None, Ok, Err, refl, sym, ap, ◌∙◌, subst, arith}
 use Rattle.std.proofs.lemmas.Bool.{lt-ltb}
 use Rattle.kit_base.specs.Word.{add}
 use Rattle.kit_base.specs.declared.event.Event.TheVariants as event
@@ -8,7 +8,6 @@ use Rattle.obj_mem.specs.declared.cell.Cell.TheVariants.{Unwritten, Num, Ptr, Nu
 use Rattle.obj_mem.specs.declared.cell.ObjectKind.TheVariants.{Local}
 use Rattle.obj_mem.specs.declared.access.Access.{Access}
 use Rattle.obj_mem.specs.declared.access.Access.TheVariants.{Outside, Dead, ReadOnly, NoCard}
-use Rattle.obj_mem.specs.declared.refusal.Refusal.{Refusal}
 use Rattle.obj_mem.specs.declared.refusal.Refusal.TheVariants.{Strays, Faults}
 use Rattle.obj_mem.specs.Objects.{ObjectT, object_at, cell_at, with_cell, is_missing_card, is_literal, read_refused, write_refused, unless_refused, also_writable}
 use Rattle.obj_mem.specs.Stores.{Sizes, with_objects, local_object, end_local, fresh, end_one}
@@ -20,8 +19,8 @@ use Rattle.mid_code.specs.Meaning.{Did, On, Ends, Next, Lang, did}
 use Rattle.mid_code.specs.States.{State, temporaries, put, put_in, one_word, two_words, stepped, distance, pointers_tested, to, in_world, to_objects, input, output, spent, over_worlds, sizes_of}
 use Rattle.mid_code.specs.inner.Passing.{acts, Pass, Kept, DidAlike}
 use Rattle.mid_code.specs.inner.Alike.{Known, Memory, Answered, Same}
-use Rattle.mid_code.proofs.Values.{word_known, one_known, two_known, stepped_known, read_known, distance_known, tested_known, first_known, Wrote, write_ok, write_err, write_alike, set_length, twin_written}
-use Rattle.mid_scalars.specs.inner.Named.{name_at, Away, IsHere, LocalKnown, Begun, count_of, KeptStates}
+use Rattle.mid_code.proofs.Values.{word_known, one_known, two_known, stepped_known, read_known, distance_known, tested_known, Wrote, write_ok, write_err, write_alike, set_length, twin_written}
+use Rattle.mid_scalars.specs.inner.Named.{name_at, IsHere, LocalKnown, Begun, count_of, KeptStates}
 use Rattle.mid_scalars.proofs.Names.{decide, set_at, set_off, close_length, closed_dead, away_in, away_same, away_not_here, memory}
 use Rattle.mid_scalars.proofs.Growing.{core_set, core_hide}
 use Rattle.mid_scalars.proofs.Working.{put_off, put_on, some_same, then_on}

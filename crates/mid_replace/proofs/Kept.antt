@@ -1,6 +1,5 @@
 -- Functions and programs by choices are mid code, and no heavier.
-use Rattle.std.proofs.Common.{◌≡◌, ℕ, zero, suc, ◌+◌, ◌*◌, ◌<◌, ◌≤◌, inl, inr, Bool, true, false, cond, List, [], ◌∷◌, length, get_or, slice_get, option_map, Option, Some, None, refl, sym, ap, ◌∙◌, subst, arith}
-use Rattle.std.specs.Prelude.{sum_by}
+use Rattle.std.proofs.Common.{◌≡◌, ℕ, zero, suc, ◌+◌, ◌<◌, ◌≤◌, inl, inr, Bool, true, false, List, [], ◌∷◌, length, get_or, slice_get, option_map, Some, refl, sym, ap, ◌∙◌, subst, arith}
 use Rattle.std.specs.List.{fold}
 use Rattle.mid_code.specs.Code.{OpT, ConstO, NullO, MoveO, OneO, TwoO, GlobalO, LocalO, LiteralO, CardO, StepO, ApartO, PtrTestO, LoadO, StoreO, FreshO, EndO, InO, OutO, WaitO, HaltO, NodesT, Stop, Do, Call, Choose, Block, Loop, Leave, Again, Return, FunctionT, CodeT}
 use Rattle.mid_code.specs.Functions.{joined, listed}
@@ -12,7 +11,7 @@ use Rattle.mid_code.specs.Open.{LiveAtOnce}
 use Rattle.mid_replace.specs.ReplacedFrom.{IsReplacedFunction, EachReplaced, IsReplacedFrom}
 use Rattle.mid_replace.specs.inner.Chosen.{held_words, words_before, plan_by, IsByChoice, IsReplacedBy, AllReplacedBy}
 use Rattle.mid_replace.proofs.Planning.{words_within}
-use Rattle.mid_replace.proofs.Pairs.{Pair, old, new, adds_none, nests, lighter, nodes_ok, names_ok, all_more, at_once}
+use Rattle.mid_replace.proofs.Pairs.{old, new, adds_none, nests, lighter, nodes_ok, names_ok, all_more, at_once}
 use Rattle.mid_replace.proofs.Paired.{Paired, list_paired}
 
 -- ---- a function by a choice

@@ -1,18 +1,18 @@
 -- Nodes and those that stand for them are alike.
-use Rattle.std.proofs.Common.{◌≡◌, ℕ, zero, suc, ◌+◌, ◌<◌, Bool, true, false, ◌&&◌, cond, eqb, ltb, List, [], ◌∷◌, ◌++◌, take, length, Option, Some, None, refl, sym, ap, ◌∙◌, subst, arith}
+use Rattle.std.proofs.Common.{◌≡◌, ℕ, zero, suc, ◌<◌, Bool, true, false, ◌&&◌, cond, eqb, ltb, List, [], ◌∷◌, ◌++◌, take, length, Option, Some, None, refl, sym, ap, ◌∙◌, subst, arith}
 use Rattle.std.proofs.lemmas.Bool.{eqb-true, eq-eqb}
 use Rattle.mid_code.specs.declared.node.Op.{Op}
 use Rattle.mid_code.specs.declared.node.Op.TheVariants as op
 use Rattle.mid_code.specs.Code.{OpT, ConstO, NullO, MoveO, OneO, TwoO, GlobalO, LocalO, LiteralO, CardO, StepO, ApartO, PtrTestO, LoadO, StoreO, FreshO, EndO, InO, OutO, WaitO, HaltO}
-use Rattle.mid_code.specs.Code.{NodesT, Stop, Do, Call, Choose, Block, Loop, Leave, Again, Return, CodeT, maybe, uses, target}
+use Rattle.mid_code.specs.Code.{NodesT, Stop, Do, Choose, Block, Loop, Leave, Again, Return, CodeT, maybe}
 use Rattle.mid_code.specs.Functions.{NodeT, DoN, ChooseN, BlockN, LoopN, LeaveN, AgainN, ReturnN, ListT, NoN, MoreN, listed, joined, before, op_before}
 use Rattle.mid_code.specs.States.{temporaries, over_worlds, sizes_of}
-use Rattle.mid_code.specs.Invariants.{IsOp, AreNodes, IsLoop, Names, NodeNames, AllOf}
+use Rattle.mid_code.specs.Invariants.{IsOp, AreNodes, IsLoop, Names, NodeNames}
 use Rattle.mid_code.specs.inner.Passing.{doing, Pass, Points, end_at, begin_at, Like}
 use Rattle.mid_scalars.specs.inner.Named.{count_of}
-use Rattle.mid_replace.specs.inner.Facts.{Fact, Plain, Word, Place, Any, Note, note, Plan, fact_at, Weaker, IsPlain, step_fact, made_fact, with_target, facts_behind, Follows, if_plain, by_place, replaced_op, IsAccess, IsStep, IsFine}
-use Rattle.mid_replace.specs.inner.Replaced.{is_plain, are_plain, is_maybe_plain, is_open, may_note, is_access, is_step, notes_kept, noted, Turn, unless_hidden, or_move, turn_of, may_be_made, may_stand, noted_maybe, some_node, turns_once, asks_by, prepended, if_some, when, loop_by, replaced, node_replaced}
-use Rattle.mid_replace.specs.inner.Held.{AllNamed, AllPlain, replacing}
+use Rattle.mid_replace.specs.inner.Facts.{Fact, Plain, Word, Place, Any, Note, note, Plan, fact_at, Weaker, IsPlain, step_fact, with_target, facts_behind, Follows, if_plain, by_place, replaced_op, IsAccess, IsStep, IsFine}
+use Rattle.mid_replace.specs.inner.Replaced.{is_plain, are_plain, is_maybe_plain, is_open, may_note, is_access, is_step, notes_kept, noted, Turn, unless_hidden, or_move, turn_of, may_be_made, may_stand, noted_maybe, some_node, turns_once, asks_by, prepended, if_some, when, loop_by, replaced}
+use Rattle.mid_replace.specs.inner.Held.{AllPlain, replacing}
 use Rattle.mid_replace.proofs.Spare.{weaker_same}
 
 -- ---- tests

@@ -1,12 +1,12 @@
 -- A function that is made by a table is one by a choice.
-use Rattle.std.proofs.Common.{◌≡◌, ℕ, ◌+◌, ◌≤◌, ◌⊎◌, inl, inr, List, [], ◌∷◌, length, map, Option, Some, None, refl, sym, ap, ◌∙◌, arith}
+use Rattle.std.proofs.Common.{◌≡◌, ℕ, inl, inr, List, [], ◌∷◌, Some, refl, sym, ap, ◌∙◌, arith}
 use Rattle.mid_code.specs.Code.{NodesT, FunctionT, CodeT}
 use Rattle.mid_code.specs.Functions.{NodeT, ListT, joined, listed}
 use Rattle.mid_code.specs.Invariants.{AllOf, IsFunction, IsTemporary, IsMid}
 use Rattle.mid_replace.specs.declared.table.Table.{Table}
-use Rattle.mid_replace.specs.inner.Chosen.{held_words, plan_by, IsByChoice, IsReplacedBy}
+use Rattle.mid_replace.specs.inner.Chosen.{IsReplacedBy}
 use Rattle.mid_replace.specs.inner.Replaced.{replaced}
-use Rattle.mid_replace.specs.inner.Tables.{plan_in, IsTableOf, HasCount, HaveCounts}
+use Rattle.mid_replace.specs.inner.Tables.{plan_in, IsTableOf, HaveCounts}
 use Rattle.mid_replace.proofs.Planning.{choice_in, plan_is}
 
 pub made_by : (f : FunctionT ℕ) (t : Table) (before : ListT ℕ) (after : List (NodeT ℕ)) (body : NodesT ℕ) → IsTableOf f t → f.body ≡ joined before

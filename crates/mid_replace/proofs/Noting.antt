@@ -1,5 +1,5 @@
 -- Few notes are kept.
-use Rattle.std.proofs.Common.{◌≡◌, ℕ, zero, suc, ◌≤◌, min, List, [], ◌∷◌, length, take, refl, ap, ◌∙◌, arith}
+use Rattle.std.proofs.Common.{◌≡◌, ℕ, zero, suc, min, List, [], ◌∷◌, length, take, refl, ap, arith}
 
 take_any : {A : Type 0} (n m : ℕ) (xs : List A) → m ≡ min (length xs) n → take m xs ≡ take n xs
 take_any zero zero [] e = refl

@@ -1,10 +1,10 @@
 -- One function after another.
-use Rattle.std.proofs.Common.{◌≡◌, ℕ, zero, suc, ◌+◌, ◌<◌, add-one, inl, inr, List, [], ◌∷◌, length, map, drop, get_or, set, slice_set, slice_index_or, refl, sym, ap, ◌∙◌, subst, arith}
+use Rattle.std.proofs.Common.{◌≡◌, ℕ, zero, suc, ◌+◌, ◌<◌, add-one, inr, List, [], ◌∷◌, length, map, drop, get_or, slice_set, slice_index_or, refl, sym, ap, ◌∙◌, subst, arith}
 use Rattle.mid_code.specs.declared.function.Function.{Function}
 use Rattle.mid_code.specs.Code.{FunctionT}
 use Rattle.mid_code.specs.Functions.{function}
 use Rattle.mid_replace.specs.inner.Chosen.{IsReplacedBy, AllReplacedBy}
-use Rattle.mid_replace.specs.inner.Tables.{HasCount, HaveCounts}
+use Rattle.mid_replace.specs.inner.Tables.{HaveCounts}
 
 pub all_stay : (fs : List (FunctionT ℕ)) → AllReplacedBy fs fs
 all_stay [] = tt

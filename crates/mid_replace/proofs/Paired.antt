@@ -1,11 +1,11 @@
 -- What stands for nodes is a pair with them.
-use Rattle.std.proofs.Common.{◌≡◌, ℕ, zero, suc, ◌+◌, ◌<◌, ◌≤◌, Bool, true, false, ◌&&◌, cond, ltb, List, [], ◌∷◌, ◌++◌, Option, Some, None, refl, sym, ap, ◌∙◌, subst, arith}
+use Rattle.std.proofs.Common.{◌≡◌, ℕ, ◌<◌, Bool, true, false, cond, ltb, List, [], ◌∷◌, ◌++◌, Option, Some, None, refl, sym, ap, ◌∙◌, arith}
 use Rattle.mid_code.specs.declared.node.Op.{Op}
 use Rattle.mid_code.specs.declared.node.Op.TheVariants as op
-use Rattle.mid_code.specs.Code.{OpT, ConstO, NullO, MoveO, OneO, TwoO, GlobalO, LocalO, LiteralO, CardO, StepO, ApartO, PtrTestO, LoadO, StoreO, FreshO, EndO, InO, OutO, WaitO, HaltO, NodesT, Stop, Do, Call, Choose, Block, Loop, Leave, Again, Return}
+use Rattle.mid_code.specs.Code.{ConstO, NullO, MoveO, OneO, TwoO, GlobalO, LocalO, LiteralO, CardO, StepO, ApartO, PtrTestO, LoadO, StoreO, FreshO, EndO, InO, OutO, WaitO, HaltO, NodesT, Do, Choose, Block, Loop, Leave, Again, Return}
 use Rattle.mid_code.specs.Functions.{NodeT, DoN, ChooseN, BlockN, LoopN, LeaveN, AgainN, ReturnN, ListT, NoN, MoreN, op_before, before, joined, listed}
 use Rattle.mid_replace.specs.inner.Facts.{Fact, Plain, Word, Place, Any, Note, Plan, fact_at, step_fact}
-use Rattle.mid_replace.specs.inner.Replaced.{Turn, is_access, is_plain, unless_hidden, or_move, turn_of, may_stand, may_be_made, some_node, noted, noted_maybe, is_maybe_plain, asks_by, if_some, when, prepended, loop_by, replaced, node_replaced}
+use Rattle.mid_replace.specs.inner.Replaced.{is_access, is_plain, unless_hidden, or_move, turn_of, may_stand, may_be_made, some_node, noted, noted_maybe, is_maybe_plain, asks_by, if_some, when, prepended, loop_by, replaced, node_replaced}
 use Rattle.mid_replace.proofs.Tables.{both_0, both_1}
 use Rattle.mid_replace.proofs.Asks.{asks_shape}
 use Rattle.mid_replace.proofs.Pairs.{Pair, stopP, goneP, movedP, doP, callP, chooseP, blockP, loopP, leaveP, againP, returnP, old, new, move, local, step, loaded, stored}

@@ -1,13 +1,12 @@
 -- Code before and after the words of some locals are held in temporaries, as one tree: nodes that stay, and operations that go or become another.
-use Rattle.std.proofs.Common.{◌≡◌, ℕ, zero, suc, ◌+◌, ◌*◌, ◌<◌, ◌≤◌, ◌⊎◌, inl, inr, max, Bool, true, false, List, [], ◌∷◌, map, length, Option, Some, None, refl, sym, ap, ◌∙◌, subst, arith}
-use Rattle.mid_code.specs.Code.{OpT, ConstO, NullO, MoveO, OneO, TwoO, GlobalO, LocalO, LiteralO, CardO, StepO, ApartO, PtrTestO, LoadO, StoreO, FreshO, EndO, InO, OutO, WaitO, HaltO, NodesT, Stop, Do, Call, Choose, Block, Loop, Leave, Again, Return, FunctionT, CodeT, maybe, uses, target, node_uses, node_target}
+use Rattle.std.proofs.Common.{◌≡◌, ℕ, zero, suc, ◌<◌, ◌≤◌, ◌⊎◌, inl, inr, max, Bool, true, false, List, [], ◌∷◌, map, Option, refl, sym, subst, arith}
+use Rattle.mid_code.specs.Code.{OpT, ConstO, NullO, MoveO, OneO, TwoO, GlobalO, LocalO, LiteralO, CardO, StepO, ApartO, PtrTestO, LoadO, StoreO, FreshO, EndO, InO, OutO, WaitO, HaltO, NodesT, Stop, Do, Call, Choose, Block, Loop, Leave, Again, Return, CodeT, maybe, node_uses, node_target}
 use Rattle.mid_code.specs.Invariants.{IsOp, IsCall, AreNodes, AllOf, NodeNames, Names}
 use Rattle.mid_code.specs.Calls.{loops, nesting, CallsTo, AddsNone}
-use Rattle.mid_code.specs.Meaning.{node_weight, call_weight}
 use Rattle.mid_code.specs.States.{op_weight}
 use Rattle.mid_code.specs.Runs.{nodes_weight}
-use Rattle.mid_code.specs.Paths.{Frame, Branched, Blocked, Looped, Point, at, behind, leaving, repeating, next_points, SomePoint}
-use Rattle.mid_code.specs.Open.{open_behind, AllAmong, Comes, LiveAtOnce}
+use Rattle.mid_code.specs.Paths.{Frame, Branched, Blocked, Looped, Point, at, behind, leaving, repeating, SomePoint}
+use Rattle.mid_code.specs.Open.{open_behind, Comes, LiveAtOnce}
 use Rattle.mid_code.proofs.Opened.{some_long}
 
 -- an operation that may go

@@ -1,8 +1,8 @@
 -- The plan of a table is that of the choice, and its temporaries are few.
-use Rattle.std.proofs.Common.{◌≡◌, ℕ, zero, suc, ◌+◌, ◌<◌, ◌≤◌, Bool, true, false, cond, List, [], ◌∷◌, length, get_or, refl, sym, ap, ◌∙◌, subst, arith}
+use Rattle.std.proofs.Common.{◌≡◌, ℕ, zero, suc, ◌+◌, ◌≤◌, Bool, true, false, cond, List, [], ◌∷◌, get_or, refl, ap, ◌∙◌, arith}
 use Rattle.mid_code.specs.Code.{FunctionT}
 use Rattle.mid_replace.specs.declared.table.Table.{Table}
-use Rattle.mid_replace.specs.inner.Facts.{Plain, Any, Plan}
+use Rattle.mid_replace.specs.inner.Facts.{Plain, Any}
 use Rattle.mid_replace.specs.inner.Chosen.{Choice, held_words, words_before, plan_by}
 use Rattle.mid_replace.specs.inner.Tables.{plan_in, HasRoom, firsts_from, IsTableOf}
 

@@ -1,5 +1,5 @@
 -- Objects of the second side that are no objects of the first, and what facts tell as names are added.
-use Rattle.std.proofs.Common.{◌≡◌, ℕ, ◌+◌, ◌<◌, ◌⊎◌, inl, inr, true, List, [], ◌∷◌, ◌++◌, length, set, Option, Some, None, refl, sym, ap, ◌∙◌, subst, arith, length-append}
+use Rattle.std.proofs.Common.{◌≡◌, ℕ, ◌+◌, ◌<◌, ◌⊎◌, inl, inr, true, List, [], ◌∷◌, ◌++◌, length, set, Option, Some, None, refl, sym, subst, arith, length-append}
 use Rattle.obj_mem.specs.declared.cell.Cell.{Cell}
 use Rattle.obj_mem.specs.declared.cell.Cell.TheVariants.{Unwritten, Num, Ptr, Null}
 use Rattle.obj_mem.specs.Objects.{ObjectT, object_at, ended}
@@ -8,7 +8,7 @@ use Rattle.obj_mem.specs.Worlds.{World}
 use Rattle.mid_code.specs.inner.Alike.{Known, Twin}
 use Rattle.mid_code.proofs.Values.{set_length}
 use Rattle.mid_scalars.specs.inner.Named.{Name, Away, Here, name_at, IsHere, Mem, Begun, Core}
-use Rattle.mid_scalars.proofs.Names.{set_off, join_first, away_more, name_split, one_name, here_same}
+use Rattle.mid_scalars.proofs.Names.{set_off, join_first, name_split, one_name, here_same}
 use Rattle.mid_replace.specs.inner.Facts.{Fact, Plain, Word, Place, Any, Weaker}
 use Rattle.mid_replace.specs.inner.Held.{Points, Tells}
 

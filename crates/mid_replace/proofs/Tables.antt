@@ -1,5 +1,5 @@
 -- The temporaries of a table.
-use Rattle.std.proofs.Common.{◌≡◌, ℕ, ◌+◌, ◌<◌, ◌≤◌, Bool, true, false, ◌&&◌, cond, ltb, List, [], ◌∷◌, get_or, refl, sym, arith}
+use Rattle.std.proofs.Common.{◌≡◌, ℕ, ◌≤◌, Bool, true, false, ◌&&◌, ltb, refl, arith}
 use Rattle.mid_replace.specs.declared.table.Table.{Table}
 use Rattle.mid_replace.specs.inner.Tables.{plan_in, HasRoom}
 

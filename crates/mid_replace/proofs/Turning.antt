@@ -1,7 +1,6 @@
 -- What becomes of a call, whether or not it has a target.
-use Rattle.std.proofs.Common.{◌≡◌, ℕ, Bool, true, false, ◌&&◌, List, Option, Some, None, refl}
+use Rattle.std.proofs.Common.{◌≡◌, ℕ, true, ◌&&◌, List, Option, Some, None, refl}
 use Rattle.std.specs.Option.{option_map}
-use Rattle.mid_code.specs.declared.node.Op.{Op}
 use Rattle.mid_code.specs.declared.node.Op.TheVariants as op
 use Rattle.mid_replace.specs.inner.Facts.{Fact, Plain, Plan, note}
 use Rattle.mid_replace.specs.inner.Replaced.{is_access, is_plain, are_plain, turn_of}

@@ -1,10 +1,10 @@
 -- One node after another.
-use Rattle.std.proofs.Common.{◌≡◌, ℕ, suc, ◌+◌, ◌<◌, add-one, length, get_or, drop, drop-cons, Bool, true, false, ◌&&◌, cond, List, [], ◌∷◌, ◌++◌, map, Option, Some, None, refl, sym, ap, ◌∙◌, subst}
+use Rattle.std.proofs.Common.{◌≡◌, ℕ, suc, ◌+◌, ◌<◌, add-one, length, get_or, drop, drop-cons, Bool, true, false, ◌&&◌, cond, List, [], ◌∷◌, ◌++◌, map, Option, Some, None, refl, sym, ap, ◌∙◌}
 use Rattle.mid_code.specs.declared.node.Op.{Op}
 use Rattle.mid_code.specs.declared.node.Node.{Node}
-use Rattle.mid_code.specs.Functions.{node, NodeT, DoN, ChooseN, BlockN, LoopN, LeaveN, AgainN, ReturnN, ListT, NoN, MoreN, listed}
-use Rattle.mid_replace.specs.inner.Facts.{Fact, Plain, Note, Plan, fact_at}
-use Rattle.mid_replace.specs.inner.Replaced.{Turn, turn_of, may_stand, may_be_made, some_node, noted, noted_maybe, is_plain, is_maybe_plain, asks_by, if_some, when, prepended, loop_by, replaced, node_replaced}
+use Rattle.mid_code.specs.Functions.{node, NodeT, DoN, ChooseN, BlockN, LoopN, LeaveN, AgainN, ReturnN, ListT, MoreN, listed}
+use Rattle.mid_replace.specs.inner.Facts.{Plain, Note, Plan, fact_at}
+use Rattle.mid_replace.specs.inner.Replaced.{turn_of, may_stand, may_be_made, some_node, noted, noted_maybe, is_plain, is_maybe_plain, asks_by, if_some, when, prepended, loop_by, replaced, node_replaced}
 use Rattle.mid_replace.specs.inner.Loops.{asking}
 use Rattle.mid_replace.specs.inner.Onto.{Onto, onto, op_onto, asking_onto, loop_onto, node_onto}
 use Rattle.mid_replace.proofs.Asks.{asks_shape}

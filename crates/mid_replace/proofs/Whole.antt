@@ -2,22 +2,22 @@
 use Rattle.std.proofs.Common.{◌≡◌, ℕ, zero, suc, ◌+◌, ◌<◌, ◌≤◌, ◌⊎◌, inl, inr, Bool, true, false, cond, eqb, List, [], ◌∷◌, length, get_or, Option, Some, None, refl, sym, ap, ◌∙◌, subst, arith}
 use Rattle.mid_code.specs.Code.{OpT, ConstO, NullO, MoveO, OneO, TwoO, GlobalO, LocalO, LiteralO, CardO, StepO, ApartO, PtrTestO, LoadO, StoreO, FreshO, EndO, InO, OutO, WaitO, HaltO}
 use Rattle.mid_code.specs.Code.{NodesT, Stop, Do, Call, Choose, Block, Loop, Leave, Again, Return, FunctionT, CodeT, maybe, uses, target}
-use Rattle.mid_code.specs.Functions.{joined, listed}
+use Rattle.mid_code.specs.Functions.{joined}
 use Rattle.mid_code.specs.States.{temporaries, over_worlds, sizes_of, function_at, no_function}
 use Rattle.obj_mem.specs.Stores.{words_here}
 use Rattle.mid_code.specs.Runs.{opening, mid_runs}
 use Rattle.mid_code.specs.Keeps.{KeepsRuns, WorksAtMost}
-use Rattle.mid_code.specs.Invariants.{IsOp, AreNodes, IsLoop, Names, NodeNames, AllOf, IsFunction, IsTemporary, IsMid}
-use Rattle.mid_code.specs.inner.Passing.{doing, Pass, Points, end_at, begin_at, Like}
+use Rattle.mid_code.specs.Invariants.{IsOp, AreNodes, IsLoop, Names, AllOf, IsFunction, IsTemporary, IsMid}
+use Rattle.mid_code.specs.inner.Passing.{Pass, Points, end_at, begin_at, Like}
 use Rattle.mid_code.specs.inner.Programs.{Program}
 use Rattle.mid_code.proofs.Programs.{program_keeps, program_works}
-use Rattle.mid_scalars.specs.inner.Named.{Begun, count_of}
+use Rattle.mid_scalars.specs.inner.Named.{count_of}
 use Rattle.mid_scalars.proofs.Whole.{ids, objects_opened, start_begun, opens}
 use Rattle.mid_scalars.proofs.Promotes.{function_ok}
 use Rattle.mid_replace.specs.inner.Facts.{Fact, Plain, Word, Any, Plan, Weaker, IsPlain, with_target, facts_behind, Follows, replaced_op, IsFine}
 use Rattle.mid_replace.specs.inner.Held.{Fits, Alive, AllNamed, AllPlain, replacing}
 use Rattle.mid_replace.specs.inner.Replaced.{replaced}
-use Rattle.mid_replace.specs.inner.Chosen.{Choice, words_before, plan_by, IsByChoice, IsReplacedBy, AllReplacedBy}
+use Rattle.mid_replace.specs.inner.Chosen.{words_before, plan_by, IsByChoice, IsReplacedBy, AllReplacedBy}
 use Rattle.mid_replace.proofs.Spare.{weaker_same}
 use Rattle.mid_replace.proofs.Calling.{keeps}
 use Rattle.mid_replace.proofs.Lists.{body_like}

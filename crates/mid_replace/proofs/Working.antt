@@ -2,7 +2,7 @@
 use Rattle.std.proofs.Common.{◌≡◌, ℕ, suc, ◌+◌, ◌<◌, ◌≤◌, ◌⊎◌, inl, inr, Bool, true, false, cond, eqb, List, [], ◌∷◌, ◌++◌, length, set, get_or, Option, Some, None, refl, sym, ap, ◌∙◌, subst, arith, length-append}
 use Rattle.kit_base.specs.declared.event.Event.{Event}
 use Rattle.obj_mem.specs.declared.cell.Cell.{Cell}
-use Rattle.obj_mem.specs.declared.cell.Cell.TheVariants.{Unwritten, Num, Ptr, Null}
+use Rattle.obj_mem.specs.declared.cell.Cell.TheVariants.{Unwritten}
 use Rattle.obj_mem.specs.declared.cell.ObjectKind.TheVariants.{Local}
 use Rattle.obj_mem.specs.Objects.{ObjectT, object, object_at, cell_at, unwritten}
 use Rattle.obj_mem.specs.Stores.{Sizes, with_objects, local_object, words_here, end_local, end_one}
@@ -12,17 +12,17 @@ use Rattle.std.proofs.lemmas.List.{length-replicate}
 use Rattle.mid_code.specs.Code.{OpT, CodeT}
 use Rattle.mid_code.specs.Meaning.{Did, On, Ends, Next, Lang, did}
 use Rattle.std.proofs.lemmas.Bool.{eqb-true}
-use Rattle.mid_code.specs.States.{State, temporaries, put, put_in, in_world, spent, over_worlds, sizes_of}
+use Rattle.mid_code.specs.States.{State, temporaries, put_in, in_world, spent, over_worlds, sizes_of}
 use Rattle.mid_code.specs.inner.Passing.{acts, state_of, Prefix, Pass, Kept, did_state}
 use Rattle.mid_code.specs.inner.Alike.{Known}
 use Rattle.mid_code.proofs.Values.{set_length, word_kept}
 use Rattle.mid_code.proofs.More.{acts_more}
 use Rattle.mid_scalars.specs.inner.Named.{Name, Away, Here, name_at, IsHere, LocalKnown, Begun, Core, count_of, KeptStates}
-use Rattle.mid_scalars.proofs.Names.{decide, set_off, join_first, join_last, closed_live, closed_dead, close_length, away_in, name_last, away_more, known_more, away_not_here}
+use Rattle.mid_scalars.proofs.Names.{decide, set_off, join_first, join_last, closed_live, close_length, away_in, name_last, away_more, known_more, away_not_here}
 use Rattle.mid_scalars.proofs.Growing.{core_end_away, core_end, core_away, core_here, later_length}
-use Rattle.mid_scalars.proofs.Working.{put_off, put_on, local_on, local_off, some_same, true_false, cell_unwritten, twin_made, local_more, with_made}
-use Rattle.mid_replace.specs.inner.Facts.{Fact, Plain, Word, Place, Any, Plan, with_target, Follows}
-use Rattle.mid_replace.specs.inner.Held.{Points, Tells, Holds, Fits, Alive, replacing}
+use Rattle.mid_scalars.proofs.Working.{put_off, local_on, local_off, some_same, true_false, cell_unwritten, twin_made, local_more, with_made}
+use Rattle.mid_replace.specs.inner.Facts.{Fact, Plan, with_target, Follows}
+use Rattle.mid_replace.specs.inner.Held.{Tells, Holds, Fits, Alive, replacing}
 use Rattle.mid_replace.proofs.Spare.{core_more, core_end_other, here_old, here_new, Kept as KeptNames, tells_kept, tells_weaker}
 
 module _ (X : Option ℕ → Plan) (x y : CodeT ℕ) (frames : List ℕ) (F : Fits X x y frames) where

@@ -1,5 +1,5 @@
 -- The promises of the passes meet: the frame that is made of a function fits it.
-use Rattle.std.proofs.Common.{◌≡◌, ℕ, ◌+◌, ◌*◌, suc, ◌≤◌, Bool, true, false, cond, List, [], ◌∷◌, ◌++◌, map, length, length-append, get_or, sum, sym, ap, ◌∙◌, subst, arith}
+use Rattle.std.proofs.Common.{ℕ, ◌+◌, ◌*◌, suc, ◌≤◌, Bool, true, false, cond, List, [], ◌∷◌, ◌++◌, map, length, length-append, get_or, sum, sym, ap, ◌∙◌, subst, arith}
 use Rattle.c_types.specs.Programs.{TFunctionT, ProgramT}
 use Rattle.c_meaning.specs.Setting.{Setting, setting}
 use Rattle.c_meaning.specs.Frames.{AreLarge, FitsFrame, EachFits, LargeAtOnce, expressions, structure_words}

@@ -1,5 +1,5 @@
 -- What is chosen for a function, the plan by it, and the function by that.
-use Rattle.std.specs.Prelude.{◌≡◌, ℕ, zero, suc, ◌+◌, ◌≤◌, Bool, true, false, cond, List, [], ◌∷◌, length, get_or, ◌⊎◌, Option, Some}
+use Rattle.std.specs.Prelude.{◌≡◌, ℕ, zero, suc, ◌+◌, ◌≤◌, Bool, true, false, cond, List, [], ◌∷◌, length, get_or, ◌⊎◌, Some}
 use Rattle.mid_code.specs.Code.{FunctionT}
 use Rattle.mid_code.specs.Functions.{NodeT, ListT, listed, joined}
 use Rattle.mid_replace.specs.inner.Facts.{Plain, Any, Plan}

@@ -1,5 +1,5 @@
 -- What is known of temporaries in a stretch of operations, and the operations for one where the words of some locals are held in temporaries.
-use Rattle.std.specs.Prelude.{◌≡◌, ℕ, ◌<◌, Bool, true, false, cond, eqb, List, [], ◌∷◌, Option, Some, None}
+use Rattle.std.specs.Prelude.{◌≡◌, ℕ, ◌<◌, Bool, true, cond, eqb, List, [], ◌∷◌, Option, Some, None}
 use Rattle.kit_base.specs.Word.{add}
 use Rattle.mid_code.specs.Code.{OpT, ConstO, NullO, MoveO, OneO, TwoO, GlobalO, LocalO, LiteralO, CardO, StepO, ApartO, PtrTestO, LoadO, StoreO, FreshO}
 use Rattle.mid_code.specs.Code.{EndO, InO, OutO, WaitO, HaltO, target}

@@ -1,13 +1,12 @@
 -- How states are alike before and after the words of some locals are held in temporaries.
-use Rattle.std.specs.Prelude.{◌≡◌, ℕ, suc, ◌+◌, ◌≤◌, ◌<◌, true, false, List, [], ◌∷◌, length, Option, Some, None}
+use Rattle.std.specs.Prelude.{◌≡◌, ℕ, suc, ◌+◌, ◌≤◌, ◌<◌, true, false, List, length, Option, Some}
 use Rattle.obj_mem.specs.declared.cell.Cell.{Cell}
 use Rattle.obj_mem.specs.declared.cell.Cell.TheVariants.{Unwritten, Num, Ptr, Null}
 use Rattle.obj_mem.specs.declared.cell.ObjectKind.TheVariants.{Local}
 use Rattle.obj_mem.specs.Objects.{ObjectT, object_at, cell_at}
 use Rattle.obj_mem.specs.Stores.{local_object, words_here}
 use Rattle.obj_mem.specs.Worlds.{World}
-use Rattle.mid_code.specs.Code.{OpT, CodeT, maybe, uses, target}
-use Rattle.mid_code.specs.Live.{is_among}
+use Rattle.mid_code.specs.Code.{CodeT, maybe, uses, target}
 use Rattle.mid_code.specs.States.{State, temporaries, over_worlds, sizes_of, function_at}
 use Rattle.mid_code.specs.Invariants.{AllOf}
 use Rattle.mid_code.specs.inner.Passing.{Pass}

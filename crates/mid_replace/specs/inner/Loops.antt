@@ -1,8 +1,8 @@
 -- Loops that ask for one more turn where a temporary is not 0, and do nothing else: part by part, and as a whole.
-use Rattle.std.specs.Prelude.{ℕ, zero, Bool, true, false, ◌&&◌, cond, eqb, Option, Some, None}
+use Rattle.std.specs.Prelude.{ℕ, Bool, true, false, ◌&&◌, cond, eqb, Option, Some, None}
 use Rattle.mid_code.specs.declared.node.Op.{Op}
 use Rattle.mid_code.specs.declared.node.Op.TheVariants as op
-use Rattle.mid_code.specs.Functions.{NodeT, DoN, ChooseN, BlockN, LoopN, LeaveN, AgainN, ReturnN, ListT, NoN, MoreN}
+use Rattle.mid_code.specs.Functions.{NodeT, DoN, ChooseN, AgainN, ListT, NoN, MoreN}
 use Rattle.mid_replace.specs.inner.Replaced.{turns_once}
 
 abbrev pub is_nothing : ListT ℕ → Bool

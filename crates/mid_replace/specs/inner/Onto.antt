@@ -2,7 +2,7 @@
 use Rattle.std.specs.Prelude.{ℕ, List, [], ◌∷◌, ◌++◌, Option, Some, None}
 use Rattle.mid_code.specs.declared.node.Op.{Op}
 use Rattle.mid_code.specs.Functions.{NodeT, DoN, ChooseN, BlockN, LoopN, LeaveN, AgainN, ReturnN, ListT, listed}
-use Rattle.mid_replace.specs.inner.Facts.{Fact, Plain, Note, Plan, fact_at}
+use Rattle.mid_replace.specs.inner.Facts.{Plain, Note, Plan, fact_at}
 use Rattle.mid_replace.specs.inner.Replaced.{turn_of, may_stand, some_node, noted, noted_maybe, is_plain, is_maybe_plain, asks_by, if_some, when, replaced}
 
 -- the nodes so far, and what is noted behind them

@@ -1,6 +1,5 @@
 -- Nodes as they stand in memory, with the words of some locals in temporaries, and the plan by which that is done.
-use Rattle.std.specs.Prelude.{ℕ, zero, ◌+◌, ◌<◌, Bool, true, false, ◌&&◌, not, cond, eqb, ltb, List, [], ◌∷◌, ◌++◌, take, length, get_or, Option, Some, None}
-use Rattle.std.specs.Option.{option_map}
+use Rattle.std.specs.Prelude.{ℕ, zero, Bool, true, false, ◌&&◌, cond, eqb, ltb, List, [], ◌∷◌, ◌++◌, take, Option, Some, None}
 use Rattle.mid_code.specs.declared.node.Op.{Op}
 use Rattle.mid_code.specs.declared.node.Op.TheVariants as op
 use Rattle.mid_code.specs.Functions.{NodeT, DoN, ChooseN, BlockN, LoopN, LeaveN, AgainN, ReturnN, ListT, NoN, MoreN, listed}

@@ -1,4 +1,4 @@
-use Rattle.std.proofs.Common.{rules, ◌≡◌, refl, sym, ap, map, subst}
+use Rattle.std.proofs.Common.{refl, sym, map, subst}
 use Rattle.mid_code.specs.Functions.{function}
 use Rattle.mid_replace.specs.inner.Tables.{HaveCounts}
 use Rattle.mid_replace.proofs.OneByOne.{all_stay, as_many, one_more, next_counts, next_same}

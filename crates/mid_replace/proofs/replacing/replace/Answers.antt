@@ -1,5 +1,4 @@
 use Rattle.std.proofs.Common.{rules, ◌≡◌, refl, sym, subst, map}
-use Rattle.mid_code.specs.Code.{CodeT}
 use Rattle.mid_code.specs.Functions.{function}
 use Rattle.mid_code.specs.View.{code}
 use Rattle.mid_code.specs.Whole.{mid}
@@ -7,7 +6,6 @@ use Rattle.mid_code.specs.Invariants.{IsMid}
 use Rattle.mid_replace.specs.ReplacedFrom.{IsReplacedFrom}
 use Rattle.mid_replace.specs.inner.Chosen.{AllReplacedBy}
 use Rattle.mid_replace.proofs.Kept.{replaced_mid, static_laws}
-use Rattle.mid_replace.proofs.Made.{mid_counts}
 use Rattle.mid_replace.proofs.Whole.{replaced_keeps, replaced_works}
 use Rattle.mid_replace.proofs.replacing.replace.Goals as goal
 

@@ -1,5 +1,3 @@
-use Rattle.std.proofs.Common.{rules, ◌≡◌}
-use Rattle.mid_code.specs.Functions.{node}
 use Rattle.mid_replace.specs.inner.Tables.{plan_in}
 use Rattle.mid_replace.proofs.Walking.{slice_goes_on, slice_stops}
 use Rattle.mid_replace.proofs.walk.+replace.Goals as goal
